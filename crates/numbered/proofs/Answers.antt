@@ -1,0 +1,90 @@
+-- An answer's step is orderly: an HTTP response, plain or encrypted, and a DNS response.
+use mathlib.Core.Path.{_≡_, refl}
+use mathlib.Core.Bool.{Bool, true, false}
+use mathlib.Core.List.{List}
+use mathlib.Core.Option.{Option, none, some}
+use lib.Dec.{eqb}
+use Rattle.sorted.specs.Table.{In}
+use Rattle.sorted.proofs.Never.{never}
+use Rattle.sorted.proofs.Lookup.{at-key}
+use Rattle.tables.specs.Tables.{documents, cookies, inputs, pendingDNS, pendingRequests, sts, keyOf, cmp, Tables}
+use Rattle.tables.specs.Labels.{key, document}
+use Rattle.tables.specs.Rows.{sameHost}
+use Rattle.wim.specs.Nouns.{WindowNumber, Address, Protocol, Plain, Secure, Url, Cookie, Matching, Reference, Req, Xhr, Keyless, Keyed, Script, ScriptState, Body, Number, Page, Answer, DnsAnswer, Document, Question, Waiting, NoRequest, Mismatch}
+use Rattle.wim.specs.Walks.{activeAmong}
+use Rattle.wim.specs.Program.{Program, answer, ask, history, under, reached, listening, arrived, question, refuseUnless, run}
+use Rattle.wim.specs.History.{placeOf}
+use Rattle.wim.specs.Response.{actOnHeaders, whereTo, load, arrive, answerWindow, answerScript, answerReached, processResponse}
+use Rattle.wim.specs.Main.{encryptedAnswer, plainAnswer, goOut, resolved}
+use Rattle.tables.proofs.Update.{linear}
+use Rattle.numbered.proofs.Once.{once-document, once-out}
+use Rattle.numbered.proofs.Kept.{Kept, once-kept, new-document, new-key}
+use Rattle.numbered.proofs.Orderly.{Ends, Orderly, ends-done, ends-bring, ends-edit, orderly-done, orderly-refuse, orderly-ask, orderly-bring, orderly-edit, orderly-revise, orderly-cut, orderly-needs, orderly-unless}
+use Rattle.numbered.proofs.Shared.{stays-active, orderly-send, orderly-remove}
+
+module _ {a : Tables} where
+  orderly-headers : (w : Waiting) (x : Answer) (new : List Cookie) (p : Program) → Orderly a p → Orderly a (actOnHeaders w x new p)
+  orderly-headers w x new p g = orderly-cut pendingRequests _ _ refl (orderly-edit cookies _ _ (λ r i. tt) (orderly-edit sts _ p (λ r i. tt) g))
+
+  -- a new document, with a number of its own
+  orderly-load : (v : WindowNumber) (w : Waiting) (x : Answer) (new : List Cookie) (script : Script) (state : ScriptState) → Orderly a (load v w x new script state)
+  unfolding load
+  orderly-load v w x new script state =
+      orderly-ask (history v) _ (λ ds. orderly-ask (under _) _ (λ gone. orderly-headers w x new _ (orderly-bring document _ (λ n fresh. orderly-remove gone _
+      (orderly-revise _ _ (stays-active v (placeOf (activeAmong ds)) false) (λ b K.
+      ends-edit documents _ _ b (ends-done _ _ (once-document b (once-kept K) _ (new-document K n fresh)))))))))
+
+  orderly-arrive : (v : WindowNumber) (w : Waiting) (x : Answer) (new : List Cookie) (body : Body) → Orderly a (arrive v w x new body)
+  unfolding arrive
+  orderly-arrive v w x new (Number m) = orderly-headers w x new _ (orderly-done none)
+  orderly-arrive v w x new (Page script state) = orderly-load v w x new script state
+
+  orderly-window-answer : (v : WindowNumber) (w : Waiting) (x : Answer) (new : List Cookie) (u : Option Url) → Orderly a (answerWindow v w x new u)
+  unfolding answerWindow
+  orderly-window-answer v w x new none = orderly-arrive v w x new (x .body)
+  orderly-window-answer v w x new (some u) = orderly-headers w x new _ (orderly-send _)
+
+  orderly-script-answer : (w : Waiting) (x : Answer) (new : List Cookie) (m : Matching) (u : Option Url) (d : Option Document) → Orderly a (answerScript w x new m u d)
+  unfolding answerScript
+  orderly-script-answer w x new m (some u) d = orderly-headers w x new _ (orderly-done none)
+  orderly-script-answer w x new m none none = orderly-headers w x new _ (orderly-done none)
+  orderly-script-answer w x new m none (some d) = orderly-ask (arrived (d .number)) _ (λ before. orderly-headers w x new _ (orderly-edit inputs _ _ (λ r i. tt) (orderly-done none)))
+
+  orderly-response : (r : Reference) (w : Waiting) (x : Answer) (new : List Cookie) → Orderly a (processResponse r w x new)
+  unfolding processResponse answerReached
+  orderly-response (Req v) w x new = orderly-ask (reached v) (answerReached v w x new) go
+    where
+      go : (top : Option WindowNumber) → Orderly a (answerReached v w x new top)
+      go none = orderly-headers w x new _ (orderly-done none)
+      go (some top) = orderly-window-answer v w x new (whereTo (x .status) (x .location))
+  orderly-response (Xhr n m) w x new = orderly-ask (listening n) _ (orderly-script-answer w x new m (whereTo (x .status) (x .location)))
+
+  pub orderly-encrypted : (x : Answer) (new : List Cookie) (found : Option Waiting) → Orderly a (encryptedAnswer x new found)
+  unfolding encryptedAnswer
+  orderly-encrypted x new found = orderly-needs NoRequest found _ (λ w. orderly-unless (eqb (x .number .0) (w .request .number .0)) Mismatch _ (orderly-response (w .reference) w x new))
+
+  pub orderly-plain : (x : Answer) (new : List Cookie) (found : Option Waiting) → Orderly a (plainAnswer x new found)
+  unfolding plainAnswer
+  orderly-plain x new found = orderly-needs NoRequest found _ (λ w. orderly-response (w .reference) w x new)
+
+  -- a waiting request, with the number of its question and a key of its own
+  module _ (b : Tables) (K : Kept a b) where
+    ends-out : (p : Protocol) (q : Question) (address : Address) → In q (b pendingDNS) → Ends a (goOut p q address) b
+    unfolding goOut
+    ends-out Plain q address i =
+        ends-edit pendingRequests _ _ b (ends-edit pendingDNS _ _ _ (ends-done _ _ (once-out b (once-kept K) q Keyless address i (λ w k j s e. never (cc)))))
+    ends-out Secure q address i =
+        ends-bring key _ b (λ n fresh. ends-edit pendingRequests _ _ b (ends-edit pendingDNS _ _ _
+        (ends-done _ _ (once-out b (once-kept K) q (Keyed (record { 0 = n })) address i (new-key K n fresh)))))
+
+  pub orderly-resolved : (x : DnsAnswer) → Orderly a (ask (question (x .number)) (resolved x))
+  unfolding run answer resolved
+  orderly-resolved x b K = go (answer (question (x .number)) b) refl
+    where
+      out : (q : Question) → In q (b pendingDNS) → (t : Bool) → Ends a (refuseUnless t Mismatch (goOut (q .url .protocol) q (x .address))) b
+      out q i true = ends-out b K (q .url .protocol) q (x .address) i
+      out q i false = orderly-refuse _ b K
+
+      go : (o : Option Question) → answer (question (x .number)) b ≡ o → Ends a (resolved x o) b
+      go none e = orderly-refuse _ b K
+      go (some q) e = out q (at-key (keyOf pendingDNS) (cmp pendingDNS) (linear pendingDNS) (x .number .0) (b pendingDNS) q e .0) (sameHost (x .host) (q .request .host))

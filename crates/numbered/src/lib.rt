@@ -1,0 +1,1 @@
+// That every number is brought once, as proofs alone: see proofs.

@@ -1,0 +1,3 @@
+-- What the tables are, in reading order.
+pub mod Order
+pub mod Table

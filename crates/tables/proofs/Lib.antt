@@ -1,0 +1,2 @@
+-- What is said of all nine tables at once.
+pub mod Update

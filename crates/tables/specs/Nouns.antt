@@ -1,0 +1,35 @@
+-- The declared types that the definitions speak of, under one roof.
+pub use Rattle.types.specs.declared.labels.WindowNumber.{WindowNumber}
+pub use Rattle.types.specs.declared.labels.DocumentNumber.{DocumentNumber}
+pub use Rattle.types.specs.declared.labels.KeyNumber.{KeyNumber}
+pub use Rattle.types.specs.declared.addresses.Host.{Host}
+pub use Rattle.types.specs.declared.addresses.Protocol.{Protocol}
+pub use Rattle.types.specs.declared.addresses.Protocol.the-variants.{Plain, Secure}
+pub use Rattle.types.specs.declared.addresses.Origin.{Origin}
+pub use Rattle.types.specs.declared.cookies.CookieName.{CookieName}
+pub use Rattle.types.specs.declared.cookies.Cookie.{Cookie}
+pub use Rattle.types.specs.declared.cookies.Pair.{Pair}
+pub use Rattle.types.specs.declared.cookies.Jar.{Jar}
+pub use Rattle.types.specs.declared.requests.Matching.{Matching}
+pub use Rattle.types.specs.declared.requests.Matching.the-variants.{Unmatched, By}
+pub use Rattle.types.specs.declared.requests.Reference.{Reference}
+pub use Rattle.types.specs.declared.requests.Reference.the-variants.{Req, Xhr}
+pub use Rattle.types.specs.declared.requests.Seal.{Seal}
+pub use Rattle.types.specs.declared.requests.Seal.the-variants.{Keyless, Keyed}
+pub use Rattle.types.specs.declared.commands.Script.{Script}
+pub use Rattle.types.specs.declared.commands.ScriptState.{ScriptState}
+pub use Rattle.types.specs.declared.rows.Parent.{Parent}
+pub use Rattle.types.specs.declared.rows.Parent.the-variants.{Top, Under}
+pub use Rattle.types.specs.declared.rows.Opener.{Opener}
+pub use Rattle.types.specs.declared.rows.Opener.the-variants.{Nobody, OpenedBy}
+pub use Rattle.types.specs.declared.rows.Window.{Window}
+pub use Rattle.types.specs.declared.rows.Document.{Document}
+pub use Rattle.types.specs.declared.rows.HostCookie.{HostCookie}
+pub use Rattle.types.specs.declared.rows.LocalValue.{LocalValue}
+pub use Rattle.types.specs.declared.rows.SessionValue.{SessionValue}
+pub use Rattle.types.specs.declared.rows.News.{News}
+pub use Rattle.types.specs.declared.rows.News.the-variants.{Answered, Posted}
+pub use Rattle.types.specs.declared.rows.Input.{Input}
+pub use Rattle.types.specs.declared.rows.Question.{Question}
+pub use Rattle.types.specs.declared.rows.Waiting.{Waiting}
+pub use Rattle.types.specs.declared.rows.StrictHost.{StrictHost}

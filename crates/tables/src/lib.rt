@@ -1,0 +1,1 @@
+// The nine tables as definitions alone: see specs.

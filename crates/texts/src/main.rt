@@ -1,0 +1,26 @@
+// Worked texts, run through the public functions of csexp and csexp_write: a line for each, its name and the answer (crates/texts/stdout).
+mod atoms; // atoms, numbers, words, small lists
+mod firsts; // terms one behind another
+mod limits; // both limits of an item, on either side
+mod say; // a line of output
+mod wholes; // texts that are one canonical term, and texts that are not
+mod written; // terms written into a buffer, and read back
+
+fn main() {
+    wholes::terms();
+    wholes::lengths();
+    wholes::lists();
+    wholes::other_forms();
+    wholes::blanks();
+    limits::levels();
+    limits::sizes();
+    firsts::positions();
+    firsts::limits();
+    atoms::numbers();
+    atoms::decimals();
+    atoms::words();
+    atoms::small_lists();
+    atoms::cycle();
+    written::address();
+    written::counted();
+}

@@ -1,0 +1,49 @@
+-- 000 Algorithms 5 and 6, NAVBACK and NAVFORWARD; and how a document's fields are set.
+use mathlib.Core.Bool.{Bool, true, false, cond, _&&_}
+use mathlib.Core.List.{List, [], _∷_}
+use mathlib.Core.Option.{Option, none, some}
+use Prim.Native.Nat.{ℕ, suc}
+use lib.Dec.{eqb}
+use Rattle.sorted.specs.Table.{find, Edit}
+use Rattle.tables.specs.Tables.{documents}
+use Rattle.tables.specs.Rows.{sameWindow, sameDocument, settingActive}
+use Rattle.wim.specs.Nouns.{WindowNumber, DocumentNumber, Script, ScriptState, Bare, Document, Stopped}
+use Rattle.wim.specs.Walks.{activeAmong}
+use Rattle.wim.specs.Program.{Program, ask, edit, revise, refuse, done, history, _>>=_, _>>_}
+use Rattle.wim.specs.Sending.{cancelNav}
+
+-- the document before, and the document after another in its history
+abbrev pub before : List Document → Document → Option Document
+before ds d = find (λ (e : Document). eqb (suc (e .place)) (d .place)) ds
+
+abbrev pub after : List Document → Document → Option Document
+after ds d = find (λ (e : Document). eqb (e .place) (suc (d .place))) ds
+
+abbrev pub neighbour : (List Document → Document → Option Document) → List Document → Option Document → Option Document
+neighbour towards ds none = none
+neighbour towards ds (some d) = towards ds d
+
+abbrev pub placeOf : Option Document → ℕ
+placeOf none = 0
+placeOf (some d) = d .place
+
+-- 2 to 6 of both algorithms; `first` is what the step does before it moves (a trigger: nothing; a script: what it stores)
+unfoldable pub moved : WindowNumber → (Program → Program) → List Document → Option Document → Program
+moved w first ds none = refuse Stopped
+moved w first ds (some e) = do
+  first
+  revise documents (settingActive w (placeOf (activeAmong ds)) false)  -- 3
+  revise documents (settingActive w (e .place) true)  -- 4
+  cancelNav (Bare w) (done none)  -- 5, 6
+
+-- ALGORITHM 5, NAVBACK(w', s').
+unfoldable pub navBack : WindowNumber → (Program → Program) → Program
+navBack w first = do
+  ds ← ask (history w)
+  moved w first ds (neighbour before ds (activeAmong ds))
+
+-- ALGORITHM 6, NAVFORWARD(w', s').
+unfoldable pub navForward : WindowNumber → (Program → Program) → Program
+navForward w first = do
+  ds ← ask (history w)
+  moved w first ds (neighbour after ds (activeAmong ds))

@@ -1,0 +1,100 @@
+-- The declared types that the definitions speak of, under one roof.
+pub use Rattle.types.specs.declared.labels.WindowNumber.{WindowNumber}
+pub use Rattle.types.specs.declared.labels.DocumentNumber.{DocumentNumber}
+pub use Rattle.types.specs.declared.labels.RequestNumber.{RequestNumber}
+pub use Rattle.types.specs.declared.labels.DnsNumber.{DnsNumber}
+pub use Rattle.types.specs.declared.labels.KeyNumber.{KeyNumber}
+pub use Rattle.types.specs.declared.labels.Label.{Label as Mark}
+pub use Rattle.types.specs.declared.labels.Label.the-variants.{OfWindow, OfRequest, OfDns, OfKey, OfDocument}
+pub use Rattle.types.specs.declared.labels.Fresh.{Fresh}
+pub use Rattle.types.specs.declared.addresses.Host.{Host}
+pub use Rattle.types.specs.declared.addresses.Address.{Address}
+pub use Rattle.types.specs.declared.addresses.Path.{Path}
+pub use Rattle.types.specs.declared.addresses.Parameters.{Parameters}
+pub use Rattle.types.specs.declared.addresses.Protocol.{Protocol}
+pub use Rattle.types.specs.declared.addresses.Protocol.the-variants.{Plain, Secure}
+pub use Rattle.types.specs.declared.addresses.Fragment.{Fragment}
+pub use Rattle.types.specs.declared.addresses.Fragment.the-variants.{Absent, Named}
+pub use Rattle.types.specs.declared.addresses.Url.{Url}
+pub use Rattle.types.specs.declared.addresses.Origin.{Origin}
+pub use Rattle.types.specs.declared.cookies.CookieName.{CookieName}
+pub use Rattle.types.specs.declared.cookies.CookieValue.{CookieValue}
+pub use Rattle.types.specs.declared.cookies.Cookie.{Cookie}
+pub use Rattle.types.specs.declared.cookies.Pair.{Pair}
+pub use Rattle.types.specs.declared.cookies.SetCookies.{SetCookies}
+pub use Rattle.types.specs.declared.cookies.Jar.{Jar}
+pub use Rattle.types.specs.declared.requests.Method.{Method}
+pub use Rattle.types.specs.declared.requests.Method.the-variants.{Get, Head, Post, Put, Delete, Connect, Options, Trace}
+pub use Rattle.types.specs.declared.requests.Data.{Data}
+pub use Rattle.types.specs.declared.requests.OriginHeader.{OriginHeader}
+pub use Rattle.types.specs.declared.requests.OriginHeader.the-variants.{Unsent, Null, From}
+pub use Rattle.types.specs.declared.requests.Referrer.{Referrer}
+pub use Rattle.types.specs.declared.requests.Referrer.the-variants.{Unknown, Known}
+pub use Rattle.types.specs.declared.requests.Policy.{Policy}
+pub use Rattle.types.specs.declared.requests.Policy.the-variants.{Unset, NoReferrer, OriginOnly}
+pub use Rattle.types.specs.declared.requests.Matching.{Matching}
+pub use Rattle.types.specs.declared.requests.Matching.the-variants.{Unmatched, By}
+pub use Rattle.types.specs.declared.requests.Reference.{Reference}
+pub use Rattle.types.specs.declared.requests.Reference.the-variants.{Req, Xhr}
+pub use Rattle.types.specs.declared.requests.Cancelled.{Cancelled}
+pub use Rattle.types.specs.declared.requests.Cancelled.the-variants.{Bare, Labelled}
+pub use Rattle.types.specs.declared.requests.Request.{Request}
+pub use Rattle.types.specs.declared.requests.Sending.{Sending}
+pub use Rattle.types.specs.declared.requests.Seal.{Seal}
+pub use Rattle.types.specs.declared.requests.Seal.the-variants.{Keyless, Keyed}
+pub use Rattle.types.specs.declared.requests.Sent.{Sent}
+pub use Rattle.types.specs.declared.requests.Sent.the-variants.{Silence, Resolve, Open, Sealed}
+pub use Rattle.types.specs.declared.commands.Script.{Script}
+pub use Rattle.types.specs.declared.commands.ScriptState.{ScriptState}
+pub use Rattle.types.specs.declared.commands.Target.{Target}
+pub use Rattle.types.specs.declared.commands.Target.the-variants.{NewWindow, Existing}
+pub use Rattle.types.specs.declared.commands.Holder.{Holder}
+pub use Rattle.types.specs.declared.commands.Holder.the-variants.{Itself, Within}
+pub use Rattle.types.specs.declared.commands.Addressee.{Addressee}
+pub use Rattle.types.specs.declared.commands.Addressee.the-variants.{Anyone, Only}
+pub use Rattle.types.specs.declared.commands.Command.{Command}
+pub use Rattle.types.specs.declared.commands.Command.the-variants.{Nothing, Href, Iframe, Form, SetScript, SetScriptState, XmlHttpRequest, Back, Forward, Close, PostMessage}
+pub use Rattle.types.specs.declared.answers.Status.{Status}
+pub use Rattle.types.specs.declared.answers.Location.{Location}
+pub use Rattle.types.specs.declared.answers.Location.the-variants.{Nowhere, To}
+pub use Rattle.types.specs.declared.answers.Body.{Body}
+pub use Rattle.types.specs.declared.answers.Body.the-variants.{Number, Page}
+pub use Rattle.types.specs.declared.answers.Answer.{Answer}
+pub use Rattle.types.specs.declared.answers.DnsAnswer.{DnsAnswer}
+pub use Rattle.types.specs.declared.items.Stored.{Stored}
+pub use Rattle.types.specs.declared.items.Output.{Output}
+pub use Rattle.types.specs.declared.items.Event.{Event}
+pub use Rattle.types.specs.declared.items.Event.the-variants.{RunScript, Urlbar, Reload, GoForward, GoBack, CloseCorrupt, EncryptedAnswer, PlainAnswer, DnsResolved}
+pub use Rattle.types.specs.declared.items.Item.{Item}
+pub use Rattle.types.specs.declared.rows.Parent.{Parent}
+pub use Rattle.types.specs.declared.rows.Parent.the-variants.{Top, Under}
+pub use Rattle.types.specs.declared.rows.Opener.{Opener}
+pub use Rattle.types.specs.declared.rows.Opener.the-variants.{Nobody, OpenedBy}
+pub use Rattle.types.specs.declared.rows.Window.{Window}
+pub use Rattle.types.specs.declared.rows.Document.{Document}
+pub use Rattle.types.specs.declared.rows.HostCookie.{HostCookie}
+pub use Rattle.types.specs.declared.rows.LocalValue.{LocalValue}
+pub use Rattle.types.specs.declared.rows.SessionValue.{SessionValue}
+pub use Rattle.types.specs.declared.rows.News.{News}
+pub use Rattle.types.specs.declared.rows.News.the-variants.{Answered, Posted}
+pub use Rattle.types.specs.declared.rows.Input.{Input}
+pub use Rattle.types.specs.declared.rows.Question.{Question}
+pub use Rattle.types.specs.declared.rows.Waiting.{Waiting}
+pub use Rattle.types.specs.declared.rows.StrictHost.{StrictHost}
+pub use Rattle.types.specs.declared.browser.Windows.{Windows}
+pub use Rattle.types.specs.declared.browser.Documents.{Documents}
+pub use Rattle.types.specs.declared.browser.Cookies.{Cookies}
+pub use Rattle.types.specs.declared.browser.LocalStorage.{LocalStorage}
+pub use Rattle.types.specs.declared.browser.SessionStorage.{SessionStorage}
+pub use Rattle.types.specs.declared.browser.Inputs.{Inputs}
+pub use Rattle.types.specs.declared.browser.PendingDns.{PendingDns}
+pub use Rattle.types.specs.declared.browser.PendingRequests.{PendingRequests}
+pub use Rattle.types.specs.declared.browser.Sts.{Sts}
+pub use Rattle.types.specs.declared.browser.Browser.{Browser as State}
+pub use Rattle.types.specs.declared.refusals.Missing.{Missing}
+pub use Rattle.types.specs.declared.refusals.Missing.the-variants.{NoWindow, NoDocument, NoQuestion, NoRequest, Mismatch}
+pub use Rattle.types.specs.declared.refusals.Refusal.{Refusal}
+pub use Rattle.types.specs.declared.refusals.Refusal.the-variants.{BadText, BadShape, Lacking, Stopped, NotFresh, Full, NoRoom, Closed}
+pub use Rattle.types.specs.declared.refusals.Verdict.{Verdict}
+pub use Rattle.types.specs.declared.refusals.Verdict.the-variants.{Accepted, Refused}
+pub use Rattle.types.specs.declared.refusals.Performed.{Performed}

@@ -1,0 +1,274 @@
+-- 000 Algorithms 1, 2 and 7: GETNAVIGABLEWINDOW, GETWINDOW and RUNSCRIPT with each of its commands.
+-- Where a line of 000 stops without output, nothing has changed (2.6.3). So those lines stand first in each command, before what the step stores.
+use mathlib.Core.Bool.{Bool, true, false, cond, not, _&&_, _||_}
+use mathlib.Core.List.{List, [], _∷_, map}
+use mathlib.Core.Option.{Option, none, some}
+use Prim.Native.Nat.{ℕ, suc}
+use lib.Dec.{eqb}
+use Rattle.sorted.specs.Table.{Edit, put, drop, sift}
+use Rattle.tables.specs.Tables.{windows, documents, cookies, localStorage, sessionStorage, inputs, Edits, isSecure}
+use Rattle.tables.specs.Labels.{window}
+use Rattle.tables.specs.Rows.{oneOf, windowOneOf, originOf, sameOrigin, withState, withScript, changing}
+use Rattle.wim.specs.Nouns.{WindowNumber, DocumentNumber, Url, Origin, Parameters, Cookie, HostCookie, Method, Get, Head, Post, Put, Delete, Connect, Options, Trace, Data, OriginHeader, Unsent, Null, From, Referrer, Known, Policy, Unset, NoReferrer, OriginOnly, Reference, Req, Xhr, Cancelled, Bare, Labelled, Sending, Target, NewWindow, Existing, Holder, Itself, Within, Addressee, Anyone, Only, Command, Nothing, Href, Iframe, Form, SetScript, SetScriptState, XmlHttpRequest, Back, Forward, Close, PostMessage, Stored, Output, Parent, Top, Under, Opener, Nobody, OpenedBy, Window, Document, LocalValue, SessionValue, Input, News, Answered, Posted, NoWindow, NoDocument}
+use Rattle.wim.specs.Walks.{Removal}
+use Rattle.wim.specs.Cookies.{cookieMerge, storeAll}
+use Rattle.wim.specs.Program.{Program, ask, edit, revise, bring, done, reached, active, history, navigated, ofOrigin, arrived, under, cookiesOf, needs, stopIf, _>>=_, _>>_}
+use Rattle.wim.specs.Sending.{cancelNav, send}
+use Rattle.wim.specs.History.{navBack, navForward}
+
+abbrev pub noData : Data
+noData = record { 0 = 0 }
+
+-- ALGORITHM 1, GETNAVIGABLEWINDOW, lines 9 and 10: the window with the number if it is navigable, otherwise the script's own
+abbrev pub getNavigableWindow : WindowNumber → Document → WindowNumber → (WindowNumber → Program) → Program
+getNavigableWindow w d v = ask (navigated w d v)
+
+-- lines 2 to 8: a new window, with the script's own for its opener unless noreferrer
+abbrev pub newTopWindow : WindowNumber → Opener → Window
+newTopWindow v opener = record { number = v; parent = Top; opener = opener }
+
+abbrev pub openerUnless : Bool → WindowNumber → Opener
+openerUnless true w = Nobody
+openerUnless false w = OpenedBy w
+
+-- ALGORITHM 2, GETWINDOW: the active document of the window with the number if it is reached and of the script's origin, otherwise the script's own
+abbrev pub otherwise : Document → Option Document → Document
+otherwise d none = d
+otherwise d (some e) = e
+
+abbrev pub getWindow : Document → WindowNumber → (Document → Program) → Program
+getWindow d v k = do
+  found ← ask (ofOrigin d v)
+  k (otherwise d found)
+
+-- ALGORITHM 7, lines 11 to 14: what every script step stores. A storage value 0 has no row.
+abbrev pub storeLocal : Origin → Stored → Edits localStorage
+storeLocal o v = cond (eqb (v .0) 0) (drop (o .host .0, isSecure (o .protocol)) ∷ []) (put (record { origin = o; value = v }) ∷ [])
+
+abbrev pub storeSession : Origin → WindowNumber → Stored → Edits sessionStorage
+storeSession o top v = cond (eqb (v .0) 0) (drop (o .host .0, (isSecure (o .protocol), top .0)) ∷ []) (put (record { origin = o; top = top; value = v }) ∷ [])
+
+abbrev pub store : Document → WindowNumber → List Cookie → Output → Program → Program
+store d top merged out p = do
+  edit cookies (storeAll (d .location .host) merged)  -- 11
+  edit localStorage (storeLocal (originOf d) (out .local))  -- 12
+  edit sessionStorage (storeSession (originOf d) top (out .session))  -- 13
+  revise documents (changing (d .number) (withState (out .state)))  -- 14
+  p
+
+-- what a script of document d sends, with d's location for the referrer (15) and d's policy (16)
+abbrev pub sendingFrom : Document → Reference → Method → Url → Parameters → Data → OriginHeader → Policy → Sending
+sendingFrom d reference method url parameters body origin policy = record {
+  reference = reference;
+  method = method;
+  url = url;
+  parameters = parameters;
+  body = body;
+  origin = origin;
+  referrer = Known (d .location);
+  policy = policy;
+}
+
+-- 19 to 26: HREF
+abbrev pub hrefPolicy : Bool → Document → Policy
+hrefPolicy true d = NoReferrer
+hrefPolicy false d = d .policy
+
+abbrev pub hrefInto : Document → Url → Bool → WindowNumber → Program
+hrefInto d url noreferrer v = do
+  cancelNav (Labelled (Req v))  -- 25
+  send (sendingFrom d (Req v) Get url (url .parameters) noData Unsent (hrefPolicy noreferrer d))  -- 21 to 24, 26
+
+unfoldable pub href : WindowNumber → Document → (Program → Program) → Url → Bool → Target → Program
+href w d first url noreferrer NewWindow = do
+  first
+  v ← bring window
+  edit windows (put (newTopWindow (record { 0 = v }) (openerUnless noreferrer w)) ∷ [])  -- 20, A1:2 to 8
+  hrefInto d url noreferrer (record { 0 = v })
+href w d first url noreferrer (Existing x) = do
+  v ← getNavigableWindow w d x  -- 20
+  first
+  hrefInto d url noreferrer v
+
+-- 27 to 35: IFRAME
+abbrev pub iframeIn : Document → (Program → Program) → Url → Document → Program
+iframeIn d first url holder = do
+  first
+  v ← bring window
+  edit windows (put (record { number = record { 0 = v }; parent = Under (holder .number); opener = Nobody }) ∷ [])  -- 33, 34
+  send (sendingFrom d (Req (record { 0 = v })) Get url (url .parameters) noData Unsent (d .policy))  -- 32, 35
+
+unfoldable pub iframe : Document → (Program → Program) → Url → Holder → Program
+iframe d first url Itself = iframeIn d first url d  -- 28, 29
+iframe d first url (Within x) = do
+  holder ← getWindow d x  -- 31
+  iframeIn d first url holder
+
+-- 36 to 51: FORM
+abbrev pub isFormMethod : Method → Bool
+isFormMethod Get = true
+isFormMethod Head = false
+isFormMethod Post = true
+isFormMethod Put = false
+isFormMethod Delete = false
+isFormMethod Connect = false
+isFormMethod Options = false
+isFormMethod Trace = false
+
+abbrev pub isGet : Method → Bool
+isGet Get = true
+isGet Head = false
+isGet Post = false
+isGet Put = false
+isGet Delete = false
+isGet Connect = false
+isGet Options = false
+isGet Trace = false
+
+-- 41 to 49: the data of a GET goes into the request's parameters, of a POST into its body
+abbrev pub formSending : Document → Url → Method → Data → Reference → Sending
+formSending d url method data′ reference =
+    cond (isGet method)
+    (sendingFrom d reference method url (record { 0 = data′ .0 }) noData Unsent (d .policy))
+    (sendingFrom d reference method url (url .parameters) data′ (From (originOf d)) (d .policy))
+
+abbrev pub formInto : Document → Url → Method → Data → WindowNumber → Program
+formInto d url method data′ v = do
+  cancelNav (Labelled (Req v))  -- 50
+  send (formSending d url method data′ (Req v))  -- 40 to 49, 51
+
+unfoldable pub form : WindowNumber → Document → (Program → Program) → Url → Method → Data → Target → Program
+form w d first url method data′ NewWindow = do
+  stopIf (not (isFormMethod method))  -- 37, 38
+  first
+  v ← bring window
+  edit windows (put (newTopWindow (record { 0 = v }) (OpenedBy w)) ∷ [])  -- 39, A1:2 to 8
+  formInto d url method data′ (record { 0 = v })
+form w d first url method data′ (Existing x) = do
+  stopIf (not (isFormMethod method))  -- 37, 38
+  v ← getNavigableWindow w d x  -- 39
+  first
+  formInto d url method data′ v
+
+-- 52 to 59: SETSCRIPT, SETSCRIPTSTATE
+unfoldable pub setting : Document → (Program → Program) → WindowNumber → (Document → Document) → Program
+setting d first x f = do
+  e ← getWindow d x  -- 53, 57
+  first
+  revise documents (changing (e .number) f)  -- 54, 58
+  done none
+
+-- 60 to 72: XMLHTTPREQUEST
+abbrev pub isForbidden : Method → Bool
+isForbidden Get = false
+isForbidden Head = false
+isForbidden Post = false
+isForbidden Put = false
+isForbidden Delete = false
+isForbidden Connect = true
+isForbidden Options = false
+isForbidden Trace = true
+
+abbrev pub isGetOrHead : Method → Bool
+isGetOrHead Get = true
+isGetOrHead Head = true
+isGetOrHead Post = false
+isGetOrHead Put = false
+isGetOrHead Delete = false
+isGetOrHead Connect = false
+isGetOrHead Options = false
+isGetOrHead Trace = false
+
+abbrev pub urlOrigin : Url → Origin
+urlOrigin u = record { host = u .host; protocol = u .protocol }
+
+abbrev pub xhrSending : Document → Url → Method → Data → Reference → Sending
+xhrSending d url method data′ reference =
+    cond (isGetOrHead method)
+    (sendingFrom d reference method url (url .parameters) noData Unsent (d .policy))  -- 66, 67
+    (sendingFrom d reference method url (url .parameters) data′ (From (originOf d)) (d .policy))  -- 69
+
+unfoldable pub xhr : Document → (Program → Program) → Url → Method → Data → Reference → Program
+xhr d first url method data′ reference = do
+  stopIf (isForbidden method)  -- 61, 62
+  stopIf (not (sameOrigin (urlOrigin url) (originOf d)))  -- 63, 64
+  first
+  send (xhrSending d url method data′ reference)  -- 65 to 72
+
+-- what goes is taken out of the three tables in which it stands
+abbrev pub remove : Removal → Program → Program
+remove gone p = do
+  edit windows (sift (λ (r : Window). not (windowOneOf (r .number) (gone .windows))) ∷ [])
+  edit documents (sift (λ (d : Document). not (oneOf (d .number) (gone .documents))) ∷ [])
+  edit inputs (sift (λ (i : Input). not (oneOf (i .document) (gone .documents))) ∷ [])
+  p
+
+-- the window itself goes too
+abbrev pub withWindow : WindowNumber → Removal → Removal
+withWindow v gone = record { windows = v ∷ gone .windows; documents = gone .documents }
+
+-- 79 to 82: CLOSE
+unfoldable pub close : WindowNumber → Document → (Program → Program) → WindowNumber → Program
+close w d first x = do
+  v ← getNavigableWindow w d x  -- 80
+  ds ← ask (history v)
+  gone ← ask (under (map (λ (e : Document). e .number) ds))
+  first
+  remove (withWindow v gone)  -- 81
+  done none  -- 82
+
+-- 83 to 87: POSTMESSAGE
+abbrev pub isFor : Addressee → Document → Bool
+isFor Anyone d = true
+isFor (Only o) d = sameOrigin (originOf d) o
+
+abbrev pub file : DocumentNumber → ℕ → News → Edits inputs
+file n before news = put (record { document = n; arrival = suc before; news = news }) ∷ []
+
+unfoldable pub deliver : WindowNumber → Document → (Program → Program) → ℕ → Addressee → Option Document → Program
+deliver w d first message to none = do
+  first
+  done none
+deliver w d first message to (some e) = do
+  before ← ask (arrived (e .number))
+  first
+  edit inputs (cond (isFor to e) (file (e .number) before (Posted w (originOf d) message)) [])  -- 85, 86
+  done none
+
+unfoldable pub postMessage : WindowNumber → Document → (Program → Program) → WindowNumber → ℕ → Addressee → Program
+postMessage w d first x message to = do
+  found ← ask (reached x)  -- 84
+  top ← needs NoWindow found
+  target ← ask (active x)
+  deliver w d first message to target
+
+-- 18: switch command do
+unfoldable pub command : WindowNumber → Document → (Program → Program) → Command → Program
+command w d first Nothing = do
+  first
+  done none
+command w d first (Href url target noreferrer) = href w d first url noreferrer target
+command w d first (Iframe url holder) = iframe d first url holder
+command w d first (Form url method data′ target) = form w d first url method data′ target
+command w d first (SetScript x script) = setting d first x (withScript script)
+command w d first (SetScriptState x state) = setting d first x (withState state)
+command w d first (XmlHttpRequest url method data′ matching) = xhr d first url method data′ (Xhr (d .number) matching)  -- 71
+command w d first (Back x) = do
+  v ← getNavigableWindow w d x  -- 74
+  navBack v first  -- 75
+command w d first (Forward x) = do
+  v ← getNavigableWindow w d x  -- 77
+  navForward v first  -- 78
+command w d first (Close x) = close w d first x
+command w d first (PostMessage x message to) = postMessage w d first x message to
+
+-- ALGORITHM 7, RUNSCRIPT, called from A9:9 to 12.
+unfoldable pub runScript : WindowNumber → Output → List Cookie → Program
+runScript w out new = do
+  found ← ask (reached w)  -- A9:10
+  top ← needs NoWindow found  -- 4
+  shown ← ask (active w)
+  d ← needs NoDocument shown  -- A9:11
+  old ← ask (cookiesOf (d .location .host))
+  let merged = cookieMerge old new (d .location .protocol)
+  command w d (store d top merged out) (out .command)  -- 18

@@ -1,0 +1,1 @@
+// The rules of the browser as definitions alone: see specs, in the order of Lib.antt.
