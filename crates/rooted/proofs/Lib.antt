@@ -1,0 +1,22 @@
+-- Every accepted step keeps the tables rooted; in reading order.
+pub mod Tests
+pub mod Stands
+pub mod Lines
+pub mod Counted
+pub mod Depth
+pub mod Added
+pub mod Revised
+pub mod Cut
+pub mod Removed
+pub mod Switched
+pub mod Gone
+pub mod Loaded
+pub mod Filed
+pub mod Walk
+pub mod Fresh
+pub mod Touched
+pub mod Blocks
+pub mod Commands
+pub mod Answers
+pub mod Kept
+pub mod Sound

@@ -1,0 +1,97 @@
+-- Numbers under their labels compared, one of some numbers, and what is in a list of images.
+use mathlib.Core.Path.{_≡_, refl, ap}
+use mathlib.Core.Logic.{_⊎_, inl, inr}
+use mathlib.Core.Bool.{Bool, true, false, _&&_, _||_}
+use mathlib.Core.List.{List, [], _∷_, map}
+use borrow.Author.Tests.{eqb-true, eq-eqb}
+use Rattle.sorted.specs.Table.{In}
+use Rattle.sorted.proofs.Never.{never}
+use Rattle.tables.specs.Rows.{sameWindow, sameDocument, oneOf, windowOneOf}
+use Rattle.wim.specs.Nouns.{WindowNumber, DocumentNumber}
+
+-- TESTS.
+pub and-both : (b c : Bool) → (b && c) ≡ true → (b ≡ true) × (c ≡ true)
+and-both true c e = (refl, e)
+and-both false c e = never (cc)
+
+pub or-neither : (b c : Bool) → (b || c) ≡ false → (b ≡ false) × (c ≡ false)
+or-neither true c e = never (cc)
+or-neither false c e = (refl, e)
+
+pub neither-or : (b c : Bool) → b ≡ false → c ≡ false → (b || c) ≡ false
+neither-or true c e f = e
+neither-or false c e f = f
+
+or-left : (b c : Bool) → b ≡ true → (b || c) ≡ true
+or-left true c e = refl
+or-left false c e = never (cc)
+
+or-right : (b c : Bool) → c ≡ true → (b || c) ≡ true
+or-right true c e = refl
+or-right false c e = e
+
+pub or-one : (b c : Bool) → (b || c) ≡ true → (b ≡ true) ⊎ (c ≡ true)
+or-one true c e = inl refl
+or-one false c e = inr e
+
+-- a test fails if its passing leads nowhere
+pub fails : (b : Bool) → (b ≡ true → ⊥) → b ≡ false
+fails true h = absurd (h refl)
+fails false h = refl
+
+pub not-both : {A : Type 0} {b : Bool} → b ≡ true → b ≡ false → A
+not-both {b} e f = never (cc)
+
+-- NUMBERS.
+pub window-eq : (v w : WindowNumber) → v .0 ≡ w .0 → v ≡ w
+window-eq v w e i = record { 0 = e i }
+
+pub document-eq : (v w : DocumentNumber) → v .0 ≡ w .0 → v ≡ w
+document-eq v w e i = record { 0 = e i }
+
+pub same-window : (v w : WindowNumber) → sameWindow v w ≡ true → v ≡ w
+same-window v w e = window-eq v w (eqb-true (v .0) (w .0) e)
+
+pub window-same : (v w : WindowNumber) → v ≡ w → sameWindow v w ≡ true
+window-same v w e = eq-eqb (v .0) (w .0) (ap (λ (x : WindowNumber). x .0) e)
+
+pub same-document : (m n : DocumentNumber) → sameDocument m n ≡ true → m ≡ n
+same-document m n e = document-eq m n (eqb-true (m .0) (n .0) e)
+
+pub document-same : (m n : DocumentNumber) → m ≡ n → sameDocument m n ≡ true
+document-same m n e = eq-eqb (m .0) (n .0) (ap (λ (x : DocumentNumber). x .0) e)
+
+-- ONE OF SOME NUMBERS.
+pub one-in : (n : DocumentNumber) (ms : List DocumentNumber) → oneOf n ms ≡ true → In n ms
+one-in n [] e = never (cc)
+one-in n (m ∷ ms) e = go (or-one (sameDocument n m) (oneOf n ms) e) (one-in n ms)
+  where
+    go : (sameDocument n m ≡ true) ⊎ (oneOf n ms ≡ true) → (oneOf n ms ≡ true → In n ms) → (n ≡ m) ⊎ In n ms
+    go (inl p) ih = inl (same-document n m p)
+    go (inr p) ih = inr (ih p)
+
+pub in-one : (n : DocumentNumber) (ms : List DocumentNumber) → In n ms → oneOf n ms ≡ true
+in-one n (m ∷ ms) (inl e) = or-left (sameDocument n m) (oneOf n ms) (document-same n m e)
+in-one n (m ∷ ms) (inr i) = or-right (sameDocument n m) (oneOf n ms) (in-one n ms i)
+
+pub window-in : (v : WindowNumber) (ws : List WindowNumber) → windowOneOf v ws ≡ true → In v ws
+window-in v [] e = never (cc)
+window-in v (w ∷ ws) e = go (or-one (sameWindow v w) (windowOneOf v ws) e) (window-in v ws)
+  where
+    go : (sameWindow v w ≡ true) ⊎ (windowOneOf v ws ≡ true) → (windowOneOf v ws ≡ true → In v ws) → (v ≡ w) ⊎ In v ws
+    go (inl p) ih = inl (same-window v w p)
+    go (inr p) ih = inr (ih p)
+
+pub in-window : (v : WindowNumber) (ws : List WindowNumber) → In v ws → windowOneOf v ws ≡ true
+in-window v (w ∷ ws) (inl e) = or-left (sameWindow v w) (windowOneOf v ws) (window-same v w e)
+in-window v (w ∷ ws) (inr i) = or-right (sameWindow v w) (windowOneOf v ws) (in-window v ws i)
+
+-- IMAGES.
+module _ {A B : Type 0} (f : A → B) where
+  pub in-image : (l : List A) (y : B) → In y (map f l) → (x : A) × In x l × (y ≡ f x)
+  in-image (x ∷ l) y (inl e) = (x, inl refl, e)
+  in-image (x ∷ l) y (inr i) = let z = in-image l y i in (z .0, inr (z .1), z .2)
+
+  pub image-in : (l : List A) (x : A) → In x l → In (f x) (map f l)
+  image-in (y ∷ l) x (inl e) = inl (ap f e)
+  image-in (y ∷ l) x (inr i) = inr (image-in l x i)

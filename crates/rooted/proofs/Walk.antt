@@ -1,0 +1,78 @@
+-- The walk along a program: what holds of the tables at its end, whatever fresh numbers it is given.
+use mathlib.Core.Path.{_≡_, refl, sym, _∙_, ap, subst}
+use mathlib.Core.Logic.{inl, inr}
+use mathlib.Core.Bool.{Bool, true, false, cond}
+use mathlib.Core.List.{List, [], _∷_, map}
+use mathlib.Core.Option.{Option, none, some}
+use Prim.Native.Nat.{ℕ}
+use borrow.Author.Tests.{eqb-true}
+use lib.Dec.{eqb}
+use Rattle.sorted.specs.Table.{In}
+use Rattle.sorted.proofs.Never.{never}
+use Rattle.tables.specs.Tables.{Tables, update, apply}
+use Rattle.tables.specs.Labels.{Kind, window, request, dns, key, document, host, code, Label}
+use Rattle.shapes.specs.Events.{Message}
+use Rattle.wim.specs.Nouns.{Missing, NotFresh}
+use Rattle.wim.specs.Program.{answer, Program, ask, edit, revise, bring, refuse, done, needs, stopIf, refuseUnless, Outcome, refused, made, run}
+
+-- `P` holds at the end, where fresh numbers are brought of which `F` is known
+abbrev pub Keeps : (Tables → Type 0) → (Label → Type 0) → Program → Tables → Type 0
+Keeps P F (ask q k) b = Keeps P F (k (answer q b)) b
+Keeps P F (edit t es p) b = Keeps P F p (apply t es b)
+Keeps P F (revise t g p) b = Keeps P F p (update t (map g) b)
+Keeps P F (bring κ k) b = (n : ℕ) → F (κ, n) → Keeps P F (k n) b
+Keeps P F (refuse r) b = Unit {0}
+Keeps P F (done m) b = P b
+
+-- kinds are told apart by their codes
+kindOf : ℕ → Kind
+kindOf n = cond (eqb n 0) window (cond (eqb n 1) request (cond (eqb n 2) dns (cond (eqb n 3) key (cond (eqb n 4) document host))))
+
+kind-coded : (κ : Kind) → kindOf (code κ) ≡ κ
+unfolding kindOf
+kind-coded window = refl
+kind-coded request = refl
+kind-coded dns = refl
+kind-coded key = refl
+kind-coded document = refl
+kind-coded host = refl
+
+same-kind : (κ ν : Kind) → eqb (code κ) (code ν) ≡ true → ν ≡ κ
+same-kind κ ν e = sym (kind-coded ν) ∙ ap kindOf (sym (eqb-true (code κ) (code ν) e)) ∙ kind-coded κ
+
+module _ (P : Tables → Type 0) (F : Label → Type 0) where
+  -- A RUN OF SUCH A PROGRAM ends as it says.
+  pub kept-run : (p : Program) (b : Tables) (f : List Label) → Keeps P F p b → ((l : Label) → In l f → F l) → (c : Tables) (m : Option Message) → run p b f ≡ made c m → P c
+  unfolding run
+  kept-run (ask q k) b f h x c m e = kept-run (k (answer q b)) b f h x c m e
+  kept-run (edit t es p) b f h x c m e = kept-run p (apply t es b) f h x c m e
+  kept-run (revise t g p) b f h x c m e = kept-run p (update t (map g) b) f h x c m e
+  kept-run (bring κ k) b [] h x c m e = never (cc)
+  kept-run (bring κ k) b (l ∷ f) h x c m e = go (eqb (code κ) (code (l .0))) refl e (λ y. kept-run (k (l .1)) b f y (λ j i. x j (inr i)) c m)
+    where
+      go : (t : Bool) → eqb (code κ) (code (l .0)) ≡ t → cond t (run (k (l .1)) b f) (refused NotFresh) ≡ made c m → (Keeps P F (k (l .1)) b → run (k (l .1)) b f ≡ made c m → P c) → P c
+      go true g e ih = ih (h (l .1) (subst (λ (ν : Kind). F (ν, l .1)) (same-kind κ (l .0) g) (x l (inl refl)))) e
+      go false g e ih = never (cc)
+  kept-run (refuse r) b f h x c m e = never (cc)
+  kept-run (done o) b [] h x c m e = let q : b ≡ c = outcome e in subst P q h
+    where
+      tables : Outcome → Tables
+      tables (refused r) = b
+      tables (made d o) = d
+
+      outcome : made b o ≡ made c m → b ≡ c
+      outcome e = ap tables e
+  kept-run (done o) b (l ∷ f) h x c m e = never (cc)
+
+  -- WHERE A PROGRAM MAY REFUSE, what goes on must keep.
+  pub kept-needs : {A : Type 0} (m : Missing) (o : Option A) (k : A → Program) (b : Tables) → ((x : A) → o ≡ some x → Keeps P F (k x) b) → Keeps P F (needs m o k) b
+  kept-needs m none k b h = tt
+  kept-needs m (some x) k b h = h x refl
+
+  pub kept-unless : (t : Bool) (m : Missing) (p : Program) (b : Tables) → Keeps P F p b → Keeps P F (refuseUnless t m p) b
+  kept-unless true m p b h = h
+  kept-unless false m p b h = tt
+
+  pub kept-stop : (t : Bool) (p : Program) (b : Tables) → Keeps P F p b → Keeps P F (stopIf t p) b
+  kept-stop true p b h = tt
+  kept-stop false p b h = h

@@ -1,0 +1,1 @@
+// Rooted, kept by every step: see proofs, in the order of Lib.antt.
