@@ -1,13 +1,13 @@
 #!/usr/bin/env python3
-"""Writes a crate for each table of the browser, over the crate `sorted`.
+"""Writes a crate for each table of the browser, over the crates `sorted`, `types`, `tables` and `labels`.
 
     tools/tables.py DESCRIPTION [FOLDER]      then: rt fmt
 
 DESCRIPTION is a Python file that makes TABLES, a list of `Table(..)`; FOLDER has the crates (`crates` beside this folder
 where none is given). For each table the folder CRATE is written:
 
-    src/lib.rt               Which, Found, Offer; key_is, key_is_not, first, keep, put; the functions of the description
-    specs/Lib.antt Which.antt    what the tests of Which mean
+    src/lib.rt               Which, Found, Offer; empty, size, first, keep, put; the functions of the description
+    specs/Lib.antt Which.antt    what the tests of Which mean, and what else the contracts cite
     must-fail/               the edits that the description names
     proofs/F/Proof.antt      one for each function that Rattle does not prove by itself
 
@@ -16,21 +16,25 @@ proofs whose function has gone is for the author to remove.
 
 A table in the code is a struct { rows: [Row; CAPACITY], count: usize }. A description says
 
-    name        the table, in the definitions' word; `key NAME`, `cmp NAME` are its key and its order there
-    row, table  the two structs, as paths: 'wim::Window', 'wim::Windows'
-    capacity    how many rows
-    key         the parts of the key, in order: number('number.0'), flag('name.prefixed'), or with a function that
-                turns a field into a number or a flag: flag('protocol', through='wim::is_secure')
-    tests       what else may be asked of a row, beside KeyIs and KeyIsNot: Test('Mentions', [('l', 'Label')],
-                'mentioned(w, l)', 'among (labelOf l) (mentions windows w)'): variant, fields, call, meaning
-    functions   what these call, and what else the crate offers: Function(name, source, proof, cites), Collect(..), PutAll(..)
-    uses        further types of the code, as paths
-    cites       {module: names}: what the meanings and contracts cite. Of these lines only names that occur are written
-    declared    the module that declares the row, where the path of `row` does not tell it
+    name        the table, in the definitions' word; `keyOf NAME`, `cmp NAME`, `cap NAME` are its key, order and capacity there
+    crate       the crate's name
+    row, table  the two structs, as paths: 'types::rows::Window', 'types::browser::Windows'
+    capacity    the constant that says how many rows, as a path
+    key         the parts of the key, in order: part('number', 'WindowNumber'), part('place', 'u32'), part('cookie.name.prefixed',
+                'bool'), part('origin.protocol', 'Protocol')
+    blank       an expression for a row of which nothing is said, to fill an empty table with; lines before it in `blank_lets`
+    tests       what else may be asked of a row, beside KeyIs and KeyIsNot: Test('InWindow', [('n', 'WindowNumber')],
+                'in_window(row, n)', 'sameWindow (row .window) n'): variant, fields, call, meaning
+    functions   what these call, and what else the crate offers: Function(name, source, proof, cites), Collect(..), PutAll(..), ..
+    meanings    definitions that the contracts cite beside `passes`
+    uses        further types of the code, as paths. Of these, and of `cites`, only names that occur are written
+    cites       {module: names}: what the meanings and contracts cite
     about       the first line of src/lib.rt, without its full stop
-    refused     names of EDITS that are written to must-fail/: a check of a table takes 10 to 20 seconds, so choose few
+    refused     names of EDITS that are written to must-fail/, and further edits {name: (old, new)}: a check of a table takes
+                10 to 20 seconds, so choose few
 
-Each proof cites one loop law of `sorted` (proofs/Seek, Open, First, Keep, Collect, Putting) or is one rewriting.
+Each proof cites one loop law of `sorted` (proofs/Seek, Open, First, Keep, Revising, Collect, Putting) or is one rewriting.
+In a proof `c^5` is written for c and five times `.before`.
 """
 import importlib.util
 import os
@@ -43,48 +47,47 @@ from dataclasses import dataclass, field
 
 @dataclass
 class Part:
-    """One part of a key: a field of the row, perhaps through a function that makes a number or a flag of it."""
-    kind: str                 # 'number' or 'flag'
-    path: str                 # 'name.prefixed'
-    through: str = None       # 'wim::is_secure'
-    name: str = None          # of the parameter; by itself the field's, 'prefixed', or the function's, 'secure'
+    """One part of a key: a field of the row, a number under its label, a plain number, a flag or a protocol."""
+    path: str                 # 'cookie.name.prefixed'
+    type: str                 # 'WindowNumber', 'u32', 'bool', 'Protocol'
 
     def __post_init__(self):
-        steps = [s for s in self.path.split('.') if not s.isdigit()]
-        self.name = self.name or (self.through.split('::')[-1].removeprefix('is_') if self.through else steps[-1])
-        if '_' in self.name:
-            sys.exit(f'{self.path}: give the part a name without _')
+        self.name = self.path.split('.')[-1]
 
-    def type(self):
-        return 'u64' if self.kind == 'number' else 'bool'
+    def plain(self):
+        return self.type[0] == 'u'
 
-    def compare(self):
-        return 'sorted::compare' if self.kind == 'number' else 'sorted::compare_bools'
+    def labelled(self):
+        return self.type not in ('bool', 'Protocol') and not self.plain()
 
-    def of(self, row):
-        """The lines that read the part of a row, and the expression that then has it."""
-        if not self.through:
-            return [], f'{row}.{self.path}' + (' as u64' if self.kind == 'number' else '')
-        lines, held = [], row
-        for step in self.path.split('.'):     # a field that is an enum is read one step at a time
-            lines.append(f'let {step} = {held}.{step};')
-            held = step
-        return lines, f'{self.through}({held})'
+    def term(self):
+        """What it is in the key, in the definitions, of a parameter that has the part's name."""
+        return f'{self.name} .0' if self.labelled() else f'isSecure {self.name}' if self.type == 'Protocol' else self.name
+
+    def compared(self):
+        """The lines that compare a parameter with the row's part; what they ask; the places that a proof meets at them, in order."""
+        answer, call, cast = f'let by_{self.name} = ', '(λ c κs. tt)', '(λ c. search needs)'
+        if self.type == 'bool':
+            return [f'{answer}sorted::compare_bools({self.name}, row.{self.path});'], [call], ['compare-bools']
+        if self.type == 'Protocol':    # an enum is read one field at a time
+            holder = self.path.split('.')[0]
+            return [f'let {holder} = row.{holder};', f'let own = {self.path};', f'let mine = labels::is_secure({self.name});',
+                    'let its = labels::is_secure(own);', f'{answer}sorted::compare_bools(mine, its);'], [call] * 3, [
+                        holder, 'is-secure', 'is-secure', 'compare-bools']
+        if self.plain():
+            return [f'{answer}sorted::compare({self.name} as u64, row.{self.path} as u64);'], [cast, call], ['struct-known', 'compare']
+        return [f'{answer}sorted::compare({self.name}.0 as u64, row.{self.path}.0 as u64);'], [cast, cast, call], ['struct-known', 'struct-known', 'compare']
 
 
-def number(path, through=None, name=None):
-    return Part('number', path, through, name)
-
-
-def flag(path, through=None, name=None):
-    return Part('flag', path, through, name)
+def part(path, type):
+    return Part(path, type)
 
 
 @dataclass
 class Test:
     variant: str              # of the enum Which
     fields: list              # [(name, type)]
-    call: str                 # in terms of the row w and the fields
+    call: str                 # in terms of the row and the fields
     meaning: str              # in the definitions, in the same terms
 
 
@@ -102,24 +105,21 @@ class Function:
 @dataclass
 class Table:
     name: str
+    crate: str
     row: str
     table: str
-    capacity: int
+    capacity: str
     key: list
+    blank: str
+    blank_lets: list = field(default_factory=list)
     tests: list = field(default_factory=list)
     functions: list = field(default_factory=list)
+    meanings: str = ''
     uses: list = field(default_factory=list)
     cites: dict = field(default_factory=dict)
-    declared: str = None
     about: str = None
-    crate: str = None
     refused: list = field(default_factory=list)
-
-    def __post_init__(self):
-        self.crate = self.crate or self.name + '_table'
-        self.about = self.about or f'The table of {self.name}, in rising order of their key'
-        path = self.row.split('::')
-        self.declared = self.declared or '.'.join([f'Rattle.{path[0]}.specs.declared'] + path[1:])
+    edits: dict = field(default_factory=dict)
 
 
 # ---------------------------------------------------------------- templates: @word@ is filled in
@@ -143,34 +143,56 @@ pub struct Offer {
     pub table: @Table@,
     pub done: bool,
 }
+@changes@
+// A row of which nothing is said.
+fn blank() -> @Row@ {
+@blank@
+}
+
+pub fn empty() -> @Table@
+    ensures { λ r. ⌜ take (r .count) (r .rows) ≡ [] ⌝ }
+{
+    let row = blank();
+    @Table@ {
+        rows: [row; @CAPACITY@],
+        count: 0,
+    }
+}
+
+// How many rows count.
+pub fn size(t: @Table@) -> usize
+    ensures { λ r. ⌜ r ≡ length (take (t .count) (t .rows)) ⌝ }
+{
+    sorted::used(t.count, @CAPACITY@)
+}
 
 // How a key stands to a row's.
-fn stands(@keyparams@, w: @Row@) -> sorted::Order
-    ensures { λ r. ⌜ r ≡ cmp @name@ @keyterm@ (key @name@ w) ⌝ }
+fn stands(@keyparams@, row: @Row@) -> sorted::Order
+    ensures { λ r. ⌜ r ≡ cmp @name@ (@keyterm@) (keyOf @name@ row) ⌝ }
 {
 @standsbody@
 }
 
-fn order(w: @Row@, x: @Row@) -> sorted::Order
-    ensures { λ r. ⌜ r ≡ cmp @name@ (key @name@ w) (key @name@ x) ⌝ }
+fn order(row: @Row@, other: @Row@) -> sorted::Order
+    ensures { λ r. ⌜ r ≡ cmp @name@ (keyOf @name@ row) (keyOf @name@ other) ⌝ }
 {
 @orderbody@
 }
 
-fn key_is(w: @Row@, @keyparams@) -> bool
-    ensures { λ r. ⌜ r ≡ same (cmp @name@ @keyterm@ (key @name@ w)) ⌝ }
+fn key_is(row: @Row@, @keyparams@) -> bool
+    ensures { λ r. ⌜ r ≡ same (cmp @name@ (@keyterm@) (keyOf @name@ row)) ⌝ }
 {
-    sorted::same(stands(@keynames@, w))
+    sorted::same(stands(@keynames@, row))
 }
 
-fn key_is_not(w: @Row@, @keyparams@) -> bool
-    ensures { λ r. ⌜ r ≡ not (same (cmp @name@ @keyterm@ (key @name@ w))) ⌝ }
+fn key_is_not(row: @Row@, @keyparams@) -> bool
+    ensures { λ r. ⌜ r ≡ not (same (cmp @name@ (@keyterm@) (keyOf @name@ row))) ⌝ }
 {
-    sorted::not(key_is(w, @keynames@))
+    sorted::not(key_is(row, @keynames@))
 }
 @tested@
-fn test(w: @Row@, q: Which) -> bool
-    ensures { λ r. ⌜ r ≡ passes q w ⌝ }
+fn test(row: @Row@, q: Which) -> bool
+    ensures { λ r. ⌜ r ≡ passes q row ⌝ }
 {
     match q {@arms@
     }
@@ -178,9 +200,9 @@ fn test(w: @Row@, q: Which) -> bool
 
 // The place of the first row that does not stand before r, whether it has r's key, and how many rows count.
 fn seek(t: @Table@, r: @Row@) -> sorted::At
-    ensures { λ a. ⌜ Sought (stand (key @name@) (cmp @name@) r) (t .count) @capacity@ (t .rows) (a .place) (a .hit) (a .used) ⌝ }
+    ensures { λ a. ⌜ Sought (stand (keyOf @name@) (cmp @name@) r) (t .count) (cap @name@) (t .rows) (a .place) (a .hit) (a .used) ⌝ }
 {
-    let n = sorted::used(t.count, @capacity@);
+    let n = sorted::used(t.count, @CAPACITY@);
     let mut i: usize = 0;
     while i < n {
         let o = order(r, t.rows[i]);
@@ -203,15 +225,15 @@ fn seek(t: @Table@, r: @Row@) -> sorted::At
 
 // `row` at p, and the rows from p on moved up by one.
 fn insert_at(t: @Table@, p: usize, row: @Row@) -> @Table@
-    ensures { λ r. ⌜ r .rows ≡ take @capacity@ (opened p row (t .rows)) ⌝ }
+    ensures { λ r. ⌜ r .rows ≡ take (cap @name@) (opened p row (t .rows)) ⌝ }
 {
     let mut u = t;
     let mut hold = row;
     let mut i = p;
-    while i < @capacity@ {
-        let w = u.rows[i];
+    while i < @CAPACITY@ {
+        let next = u.rows[i];
         u.rows[i] = hold;
-        hold = w;
+        hold = next;
         i += 1;
     }
     u
@@ -221,22 +243,22 @@ fn insert_at(t: @Table@, p: usize, row: @Row@) -> @Table@
 pub fn first(t: @Table@, q: Which) -> Found
     ensures { λ r. ⌜ looked (r .found) (r .row) ≡ find (passes q) (take (t .count) (t .rows)) ⌝ }
 {
-    let n = sorted::used(t.count, @capacity@);
+    let n = sorted::used(t.count, @CAPACITY@);
     let mut i: usize = 0;
     while i < n {
-        let w = t.rows[i];
-        if test(w, q) {
+        let row = t.rows[i];
+        if test(row, q) {
             return Found {
                 found: true,
-                row: w,
+                row: row,
             };
         }
         i += 1;
     }
-    let w = t.rows[0];
+    let row = t.rows[0];
     Found {
         found: false,
-        row: w,
+        row: row,
     }
 }
 
@@ -244,14 +266,14 @@ pub fn first(t: @Table@, q: Which) -> Found
 pub fn keep(t: @Table@, q: Which) -> @Table@
     ensures { λ r. ⌜ take (r .count) (r .rows) ≡ keep (passes q) (take (t .count) (t .rows)) ⌝ }
 {
-    let n = sorted::used(t.count, @capacity@);
+    let n = sorted::used(t.count, @CAPACITY@);
     let mut u = t;
     let mut j: usize = 0;
     let mut i: usize = 0;
     while i < n {
-        let w = u.rows[i];
-        if test(w, q) {
-            u.rows[j] = w;
+        let row = u.rows[i];
+        if test(row, q) {
+            u.rows[j] = row;
             j += 1;
             i += 1;
         } else {
@@ -264,7 +286,7 @@ pub fn keep(t: @Table@, q: Which) -> @Table@
 
 // The table with a row, in the place of the one with its key; no room where all rows are taken by other keys.
 pub fn put(t: @Table@, row: @Row@) -> Offer
-    ensures { λ r. ⌜ Offered @capacity@ (insert (key @name@) (cmp @name@) row (take (t .count) (t .rows))) (take (r .table .count) (r .table .rows)) (r .done) ⌝ }
+    ensures { λ r. ⌜ Offered (cap @name@) (insert (keyOf @name@) (cmp @name@) row (take (t .count) (t .rows))) (take (r .table .count) (r .table .rows)) (r .done) ⌝ }
 {
     let s = seek(t, row);
     let at = s.place;
@@ -277,7 +299,7 @@ pub fn put(t: @Table@, row: @Row@) -> Offer
             done: true,
         };
     }
-    if n < @capacity@ {
+    if n < @CAPACITY@ {
         let mut u = insert_at(t, at, row);
         u.count = n + 1;
         return Offer {
@@ -292,9 +314,9 @@ pub fn put(t: @Table@, row: @Row@) -> Offer
 }
 @offered@'''
 
-WHICH = '''-- What the tests of Which mean. Written by tools/tables.py.
+WHICH = '''-- What the tests of Which mean@and@. Written by tools/tables.py.
 @cites@
-
+@meanings@
 abbrev pub passes : Which → @Row@ → Bool@clauses@
 '''
 
@@ -314,36 +336,73 @@ GHOSTS = {
     'mathlib.Core.List': ['[]', 'map'],
     'lib.ListN': ['take', 'length'],
     'Rattle.sorted.specs.Order': ['same'],
-    'Rattle.sorted.specs.Table': ['find', 'keep', 'insert', 'stand', 'looked', 'opened', 'Sought', 'Offered', 'acts', 'put'],
+    'Rattle.sorted.specs.Table': ['find', 'keep', 'insert', 'stand', 'looked', 'opened', 'Sought', 'Offered'],
 }
 WHICH_CITES = {
     'mathlib.Core.Bool': ['Bool', 'not', '_&&_', '_||_'],
+    'mathlib.Core.List': ['List', 'map'],
+    'Prim.Native.Nat': ['suc'],
+    'lib.Dec': ['eqb', 'ltb', 'leb'],
+    'lib.ListN': ['take'],
     'Rattle.sorted.specs.Order': ['same'],
+    'Rattle.sorted.specs.Table': ['put'],
 }
 PROOF_CITES = {
     'Prim.Native.Nat': ['_-_'],
     'mathlib.Core.Path': ['_≡_', 'refl', 'sym', '_∙_', 'ap'],
-    'mathlib.Core.List': ['[]'],
+    'mathlib.Core.Bool': ['true'],
+    'mathlib.Core.List': ['map'],
     'native.Mathlib.Omega': ['arith'],
+    'native.Mathlib.Numerals': ['add-one'],
     'borrow.Author.Needs': ['needs'],
     'lib.ListN': ['take'],
     'Rattle.sorted.specs.Order': ['after'],
     'Rattle.sorted.specs.Table': ['stand', 'fill'],
-    'Rattle.sorted.proofs.Count': ['mapped', 'taken-fits'],
+    'Rattle.sorted.proofs.Member': ['keep-all'],
+    'Rattle.sorted.proofs.Count': ['mapped', 'taken-fits', 'row-count'],
     'Rattle.sorted.proofs.Seek': ['Seeking', 'seek-start', 'seek-next', 'seek-hit', 'seek-end'],
     'Rattle.sorted.proofs.Open': ['Opening', 'open-start', 'open-next', 'open-end', 'at-below', 'put-over', 'put-new', 'put-full'],
     'Rattle.sorted.proofs.First': ['Finding', 'find-start', 'find-next', 'find-hit', 'find-end'],
     'Rattle.sorted.proofs.Keep': ['Keeping', 'keep-start', 'keep-drops', 'keep-keeps', 'keep-end'],
+    'Rattle.sorted.proofs.Revising': ['Revising', 'revise-start', 'revise-next', 'revise-end'],
     'Rattle.sorted.proofs.Collect': ['Collecting', 'collect-start', 'collect-skips', 'collect-takes', 'collect-end', 'fill-more', 'fill-end'],
     'Rattle.sorted.proofs.Putting': ['Putting', 'put-start', 'put-next', 'put-stop', 'put-end'],
-    'Rattle·@crate@·specs.specs.Which': ['passes'],
+    'Rattle.labels.proofs.Laws': ['or-false', 'among-append', 'among-last', 'no-host', 'clean-first'],
 }
+
+
+def keeping(passes, test, params):
+    """The invariant and the proof of a loop that keeps the rows that pass `test`: those for which `passes` holds."""
+    return f'''
+abbrev Inv-loop : tie.InvT-loop
+Inv-loop {params} n u₀ j₀ i₀ u j i = Keeping ({passes}) (u₀ .count) (cap @name@) n (u₀ .rows) (u .rows) i j
+
+abbrev μ-loop : tie.MeasureT-loop
+μ-loop {params} n u₀ j₀ i₀ u j i = n - i
+''', f'''Inv-loop μ-loop
+    (λ c κs. tt)
+    (λ c. keep-start (search mapped) (c .used .ensures))
+    (λ c. omega arith)
+    (λ c. omega arith)
+    (λ c κs. tt)
+    (λ c. omega arith)
+    (λ c. omega arith)
+    (λ c. omega arith)
+    (λ c. omega arith)
+    (λ c. omega arith)
+    (λ c. keep-keeps (c^4 .loop .inv) _ (omega arith) (sym (c^1 .{test} .ensures) ∙ c .if1 .taken))
+    (λ c. omega arith)
+    (λ c. omega arith)
+    (λ c. keep-drops (c^4 .loop .inv) _ (omega arith) (sym (c^1 .{test} .ensures) ∙ c .if1 .left))
+    (λ c. keep-end (c^1 .loop .inv) (omega arith))'''
+
 
 # The proofs: why, what stands before, the term. A need of a call without `requires` is (λ c κs. tt); an index or a sum is omega arith.
 PROOFS = {
+    'size': ('A count beyond the capacity reads as the capacity.', '', '(λ c κs. tt) (λ c. row-count (c^1 .args .t .count) (cap @name@) (c .used .result) (c^1 .args .t .rows) (search mapped) (c .used .ensures))'),
     'seek': ('The loop looks for the first row that does not stand before r.', '''
 abbrev Inv-loop : tie.InvT-loop
-Inv-loop r t n i₀ i = Seeking (stand (key @name@) (cmp @name@) r) (t .count) @capacity@ n (t .rows) i
+Inv-loop r t n i₀ i = Seeking (stand (keyOf @name@) (cmp @name@) r) (t .count) (cap @name@) n (t .rows) i
 
 abbrev μ-loop : tie.MeasureT-loop
 μ-loop r t n i₀ i = n - i
@@ -356,16 +415,16 @@ abbrev μ-loop : tie.MeasureT-loop
     (λ c κs. tt)
     (λ c. omega arith)
     (λ c. omega arith)
-    (λ c. seek-next (c .before .before .before .before .before .loop .inv) _ (omega arith) (ap after (sym (c .before .before .order .ensures)) ∙ sym (c .before .after .ensures) ∙ c .if1 .taken))
+    (λ c. seek-next (c^5 .loop .inv) _ (omega arith) (ap after (sym (c^2 .order .ensures)) ∙ sym (c^1 .after .ensures) ∙ c .if1 .taken))
     (λ c κs. tt)
-    (λ c. rw (c .same .ensures, c .before .before .before .order .ensures) (seek-hit (c .before .before .before .before .before .before .loop .inv) _ (omega arith) (ap after (sym (c .before .before .before .order .ensures)) ∙ sym (c .before .before .after .ensures) ∙ c .before .if1 .left)))
-    (λ c. seek-end (c .before .loop .inv) (omega arith))'''),
+    (λ c. rw (c .same .ensures, c^3 .order .ensures) (seek-hit (c^6 .loop .inv) _ (omega arith) (ap after (sym (c^3 .order .ensures)) ∙ sym (c^2 .after .ensures) ∙ c^1 .if1 .left)))
+    (λ c. seek-end (c^1 .loop .inv) (omega arith))'''),
     'insert_at': ('The loop moves the rows from p on up by one.', '''
 abbrev Inv-loop : tie.InvT-loop
-Inv-loop p u₀ hold₀ i₀ u hold i = Opening p hold₀ @capacity@ (u₀ .rows) (u .rows) hold i
+Inv-loop p u₀ hold₀ i₀ u hold i = Opening p hold₀ (cap @name@) (u₀ .rows) (u .rows) hold i
 
 abbrev μ-loop : tie.MeasureT-loop
-μ-loop p u₀ hold₀ i₀ u hold i = @capacity@ - i
+μ-loop p u₀ hold₀ i₀ u hold i = cap @name@ - i
 ''', '''Inv-loop μ-loop
     (λ c. open-start (search mapped))
     (λ c. omega arith)
@@ -374,11 +433,11 @@ abbrev μ-loop : tie.MeasureT-loop
     (λ c. omega arith)
     (λ c. omega arith)
     (λ c. omega arith)
-    (λ c. open-next (c .before .before .loop .inv) _ (omega arith))
-    (λ c. open-end (c .before .loop .inv) (omega arith))'''),
+    (λ c. open-next (c^2 .loop .inv) _ (omega arith))
+    (λ c. open-end (c^1 .loop .inv) (omega arith))'''),
     'first': ('The loop looks for the first row that passes the test.', '''
 abbrev Inv-loop : tie.InvT-loop
-Inv-loop q t n i₀ i = Finding (passes q) (t .count) @capacity@ n (t .rows) i
+Inv-loop q t n i₀ i = Finding (passes q) (t .count) (cap @name@) n (t .rows) i
 
 abbrev μ-loop : tie.MeasureT-loop
 μ-loop q t n i₀ i = n - i
@@ -388,80 +447,123 @@ abbrev μ-loop : tie.MeasureT-loop
     (λ c. omega arith)
     (λ c. omega arith)
     (λ c κs. tt)
-    (λ c. find-hit (c .before .before .before .before .loop .inv) _ (omega arith) (sym (c .before .test .ensures) ∙ c .if1 .taken))
+    (λ c. find-hit (c^4 .loop .inv) _ (omega arith) (sym (c^1 .test .ensures) ∙ c .if1 .taken))
     (λ c. omega arith)
     (λ c. omega arith)
-    (λ c. find-next (c .before .before .before .before .loop .inv) _ (omega arith) (sym (c .before .test .ensures) ∙ c .if1 .left))
+    (λ c. find-next (c^4 .loop .inv) _ (omega arith) (sym (c^1 .test .ensures) ∙ c .if1 .left))
     (λ c. search needs)
-    (λ c. find-end (c .before .before .loop .inv) (omega arith))'''),
-    'keep': ('The loop keeps the rows that pass the test.', '''
-abbrev Inv-loop : tie.InvT-loop
-Inv-loop q n u₀ j₀ i₀ u j i = Keeping (passes q) (u₀ .count) @capacity@ n (u₀ .rows) (u .rows) i j
-
-abbrev μ-loop : tie.MeasureT-loop
-μ-loop q n u₀ j₀ i₀ u j i = n - i
-''', '''Inv-loop μ-loop
-    (λ c κs. tt)
-    (λ c. keep-start (search mapped) (c .used .ensures))
-    (λ c. omega arith)
-    (λ c. omega arith)
-    (λ c κs. tt)
-    (λ c. omega arith)
-    (λ c. omega arith)
-    (λ c. omega arith)
-    (λ c. omega arith)
-    (λ c. omega arith)
-    (λ c. keep-keeps (c .before .before .before .before .loop .inv) _ (omega arith) (sym (c .before .test .ensures) ∙ c .if1 .taken))
-    (λ c. omega arith)
-    (λ c. omega arith)
-    (λ c. keep-drops (c .before .before .before .before .loop .inv) _ (omega arith) (sym (c .before .test .ensures) ∙ c .if1 .left))
-    (λ c. keep-end (c .before .loop .inv) (omega arith))'''),
+    (λ c. find-end (c^2 .loop .inv) (omega arith))'''),
+    'keep': ('The loop keeps the rows that pass the test.', *keeping('passes q', 'test', 'q')),
     'put': ('In the place of the row with its key, in a new place, or refused.', '', '''
     (λ c κs. tt)
-    (λ c. omega (arith, at-below (c .before .seek .ensures) (c .if1 .taken)))
-    (λ c. at-below (c .before .seek .ensures) (c .if1 .taken))
-    (λ c. put-over (key @name@) (cmp @name@) _ (c .before .seek .ensures) (c .if1 .taken))
+    (λ c. omega (arith, at-below (c^1 .seek .ensures) (c .if1 .taken)))
+    (λ c. at-below (c^1 .seek .ensures) (c .if1 .taken))
+    (λ c. put-over (keyOf @name@) (cmp @name@) _ (c^1 .seek .ensures) (c .if1 .taken))
     (λ c κs. tt)
     (λ c. search needs)
-    (λ c. rw (c .insert-at .ensures) (put-new (key @name@) (cmp @name@) _ (c .before .before .before .seek .ensures) (c .before .before .if1 .left) (omega arith)))
-    (λ c. put-full (key @name@) (cmp @name@) _ (c .before .before .seek .ensures) (c .before .if1 .left) (omega arith))'''),
-    'key_is': ('Two calls.', '', '(λ c κs. tt) (λ c κs. tt) (λ c. rw (c .same .ensures, c .before .stands .ensures))'),
-    'key_is_not': ('Two calls.', '', '(λ c κs. tt) (λ c κs. tt) (λ c. rw (c .not .ensures, c .before .key-is .ensures))'),
+    (λ c. rw (c .insert-at .ensures) (put-new (keyOf @name@) (cmp @name@) _ (c^3 .seek .ensures) (c^2 .if1 .left) (omega arith)))
+    (λ c. put-full (keyOf @name@) (cmp @name@) _ (c^2 .seek .ensures) (c^1 .if1 .left) (omega arith))'''),
+    'order': ('One call.', '', '(λ c κs. tt) (λ c. c .stands .ensures)'),
+    'key_is': ('Two calls.', '', '(λ c κs. tt) (λ c κs. tt) (λ c. rw (c .same .ensures, c^1 .stands .ensures))'),
+    'key_is_not': ('Two calls.', '', '(λ c κs. tt) (λ c κs. tt) (λ c. rw (c .not .ensures, c^1 .key-is .ensures))'),
 }
 
 
 # Edits of src/lib.rt that a check must refuse: the same operations, and a fact that no longer holds.
 EDITS = {
-    'keep_stores_where_it_reads': ('            u.rows[j] = w;', '            u.rows[i] = w;'),
+    'keep_stores_where_it_reads': ('            u.rows[j] = row;', '            u.rows[i] = row;'),
     'first_denies_the_row': ('                found: true,', '                found: false,'),
     'put_counts_two': ('        u.count = n + 1;', '        u.count = n + 2;'),
 }
 
 
+def Clean(calls, proof):
+    """Whether a label stands nowhere: the test Mentions, whose code is `calls`, and the public function `clean`."""
+    return Test('Mentions', [('l', 'Label')], 'mentioned(row, l)', 'among (labelOf l) (mentions @name@ row)'), [
+        Function('mentioned', f'''
+fn mentioned(row: @Row@, l: Label) -> bool
+    ensures {{ λ r. ⌜ r ≡ among (labelOf l) (mentions @name@ row) ⌝ }}
+{{
+{calls}
+}}
+''', proof),
+        Function('clean', '''
+// Whether no row speaks of a label.
+pub fn clean(t: @Table@, l: Label) -> bool
+    ensures { λ r. ⌜ r ≡ clean @name@ (labelOf l) (take (t .count) (t .rows)) ⌝ }
+{
+    sorted::not(first(t, Which::Mentions(l)).found)
+}
+''', '(λ c κs. tt) (λ c κs. tt) (λ c. c .not .ensures ∙ clean-first @name@ _ _ (c^1 .first .result .found) (c^1 .first .result .row) (c^1 .first .ensures))')]
+
+
+def Without(path, numbers, one_of):
+    """A public function that takes away the rows whose field `path` is one of some numbers; the meaning to add."""
+    call = one_of.split('::')[-1]
+    means = ''.join(w if i == 0 else w.capitalize() for i, w in enumerate(call.split('_')))
+    before, proof = keeping('spares gone', 'spared', 'gone')
+    return [Function('spared', f'''
+fn spared(row: @Row@, gone: {numbers}) -> bool
+    ensures {{ λ r. ⌜ r ≡ spares gone row ⌝ }}
+{{
+    let n = row.{path};
+    let among = {one_of}(n, gone);
+    sorted::not(among)
+}}
+''', f'(λ c κs. tt) (λ c κs. tt) (λ c. rw (c .not .ensures, c^1 .{antt(call)} .ensures))'),
+            Function('without', f'''
+// The rows that are spared.
+pub fn without(t: @Table@, gone: {numbers}) -> @Table@
+    ensures {{ λ r. ⌜ take (r .count) (r .rows) ≡ keep (spares gone) (take (t .count) (t .rows)) ⌝ }}
+{{
+    let n = sorted::used(t.count, @CAPACITY@);
+    let mut u = t;
+    let mut k: usize = 0;
+    let mut i: usize = 0;
+    while i < n {{
+        let row = u.rows[i];
+        if spared(row, gone) {{
+            u.rows[k] = row;
+            k += 1;
+            i += 1;
+        }} else {{
+            i += 1;
+        }}
+    }}
+    u.count = k;
+    u
+}}
+''', proof, why='The loop keeps the rows that are spared.', before=before)], f'''
+-- the rows that stay where those with one of these numbers go
+abbrev pub spares : {numbers} → @Row@ → Bool
+spares gone row = not ({means} (row .{path}) (take (gone .count) (gone .rows)))
+'''
+
+
 def Collect(name, about, params, test, meaning, item, item_meaning, into, result, size, empty, filler):
     """A public function that collects something of each row that passes a test into an array that is `filler` behind its count.
 
-    params        [(name, type)]          test, meaning      a call on the row w and the params; the test in the definitions
+    params        [(name, type)]          test, meaning      a call on the row and the params; the test in the definitions
     item          a function of the row   item_meaning       what it means      into   the struct { rows: [Item; size], count }
-    empty         a function of the crate that makes an empty one               filler what the definitions fill with
+    empty         a function that makes an empty one                            filler what the definitions fill with
     result        what the definitions make of the list of items, so that `result []` is the empty one; unfolded in the proof
     """
     arguments = ' '.join(n for n, _ in params)
-    passing = test.split('(')[0].replace('_', '-')
-    making = item.replace('_', '-')
+    place = lambda call: antt(call.split('(')[0].split('::')[-1])
+    passing, making, made = place(test), place(item), place(empty)
     source = f'''
 // {about}
 pub fn {name}(t: @Table@, {', '.join(f'{n}: {ty}' for n, ty in params)}) -> {into}
     ensures {{ λ r. ⌜ r ≡ {result} (map {item_meaning} (keep ({meaning}) (take (t .count) (t .rows)))) ⌝ }}
 {{
-    let n = sorted::used(t.count, @capacity@);
+    let n = sorted::used(t.count, @CAPACITY@);
     let mut out = {empty}();
     let mut j: usize = 0;
     let mut i: usize = 0;
     while i < n {{
-        let w = t.rows[i];
+        let row = t.rows[i];
         if {test} {{
-            let v = {item}(w);
+            let v = {item}(row);
             out.rows[j] = v;
             j += 1;
             i += 1;
@@ -475,7 +577,7 @@ pub fn {name}(t: @Table@, {', '.join(f'{n}: {ty}' for n, ty in params)}) -> {int
 '''
     before = f'''
 abbrev Inv-loop : tie.InvT-loop
-Inv-loop {arguments} t n out₀ j₀ i₀ out j i = Collecting ({meaning}) {item_meaning} (t .count) @capacity@ n (t .rows) (out .rows) i j × (out .rows ≡ fill {filler} {size} (take j (out .rows)))
+Inv-loop {arguments} t n out₀ j₀ i₀ out j i = Collecting ({meaning}) {item_meaning} (t .count) (cap @name@) n (t .rows) (out .rows) i j × (out .rows ≡ fill {filler} {size} (take j (out .rows)))
 
 abbrev μ-loop : tie.MeasureT-loop
 μ-loop {arguments} t n out₀ j₀ i₀ out j i = n - i
@@ -483,7 +585,7 @@ abbrev μ-loop : tie.MeasureT-loop
     proof = f'''Inv-loop μ-loop
     (λ c κs. tt)
     (λ c κs. tt)
-    (λ c. (collect-start (search mapped) (search mapped) (c .before .used .ensures), ap (λ (j : _). j .rows) (c .{empty.replace('_', '-')} .ensures)))
+    (λ c. (collect-start (search mapped) (search mapped) (c^1 .used .ensures), ap (λ (j : _). j .rows) (c .{made} .ensures)))
     (λ c. omega arith)
     (λ c. omega arith)
     (λ c κs. tt)
@@ -494,29 +596,119 @@ abbrev μ-loop : tie.MeasureT-loop
     (λ c. omega arith)
     (λ c. omega arith)
     (λ c.
-      let s = c .before .before .before .before .before .loop .inv in
-      (rw (c .{making} .ensures) (collect-takes (s .0) _ (omega arith) (sym (c .before .before .{passing} .ensures) ∙ c .before .if1 .taken)),
+      let s = c^5 .loop .inv in
+      (rw (c .{making} .ensures) (collect-takes (s .0) _ (omega arith) (sym (c^2 .{passing} .ensures) ∙ c^1 .if1 .taken)),
        fill-more {filler} _ {size} _ _ (s .0 .room) (omega (arith, s .0 .behind, s .0 .within, s .0 .counts)) (s .1)))
     (λ c. omega arith)
     (λ c. omega arith)
-    (λ c. let s = c .before .before .before .before .loop .inv in (collect-skips (s .0) _ (omega arith) (sym (c .before .{passing} .ensures) ∙ c .if1 .left), s .1))
-    (λ c. let h = fill-end {filler} (c .before .loop .inv .0) (c .before .loop .inv .1) (omega arith) in λ i. record {{ rows = h .0 i; count = h .1 i }})'''
+    (λ c. let s = c^4 .loop .inv in (collect-skips (s .0) _ (omega arith) (sym (c^1 .{passing} .ensures) ∙ c .if1 .left), s .1))
+    (λ c. let h = fill-end {filler} (c^1 .loop .inv .0) (c^1 .loop .inv .1) (omega arith) in λ i. record {{ rows = h .0 i; count = h .1 i }})'''
     return Function(name, source, proof, why='The loop collects.', before=before, unfolding=result)
 
 
-def PutAll(few, most):
-    """A public function that puts the rows of a struct { rows: [Row; most], count } in, one after the other."""
+def MapAll(name, about, path, item_meaning, into, empty):
+    """A public function that collects the field `path` of each row."""
+    made = antt(empty)
     source = f'''
-// One row after the other, up to the first that finds no room: then the table is too long after all of them, too.
-pub fn put_all(t: @Table@, f: {few}) -> Offer
-    ensures {{ λ r. ⌜ Offered @capacity@ (acts (key @name@) (cmp @name@) (map put (take (f .count) (f .rows))) (take (t .count) (t .rows))) (take (r .table .count) (r .table .rows)) (r .done) ⌝ }}
+// {about}
+pub fn {name}(t: @Table@) -> {into}
+    ensures {{ λ r. ⌜ take (r .count) (r .rows) ≡ map {item_meaning} (take (t .count) (t .rows)) ⌝ }}
 {{
-    let n = sorted::used(f.count, {most});
+    let n = sorted::used(t.count, @CAPACITY@);
+    let mut out = {empty}();
+    let mut i: usize = 0;
+    while i < n {{
+        let row = t.rows[i];
+        let v = row.{path};
+        out.rows[i] = v;
+        i += 1;
+    }}
+    out.count = i;
+    out
+}}
+'''
+    before = f'''
+abbrev Inv-loop : tie.InvT-loop
+Inv-loop t n out₀ i₀ out i = Collecting (λ row. true) {item_meaning} (t .count) (cap @name@) n (t .rows) (out .rows) i i
+
+abbrev μ-loop : tie.MeasureT-loop
+μ-loop t n out₀ i₀ out i = n - i
+'''
+    proof = f'''Inv-loop μ-loop
+    (λ c κs. tt)
+    (λ c κs. tt)
+    (λ c. collect-start (search mapped) (search mapped) (c^1 .used .ensures))
+    (λ c. omega arith)
+    (λ c. omega arith)
+    (λ c. omega arith)
+    (λ c. omega arith)
+    (λ c. omega arith)
+    (λ c. omega arith)
+    (λ c. collect-takes (c^3 .loop .inv) _ (omega arith) refl)
+    (λ c. collect-end (c^1 .loop .inv) (omega arith) ∙ ap (map {item_meaning}) (keep-all (λ row. true) _ (λ row i. refl)))'''
+    return Function(name, source, proof, why='The loop collects, and passes none over.', before=before)
+
+
+def Revise(change, means):
+    """A public function that changes each row in place, by `changed(row, q)`, which means `means q`."""
+    source = f'''
+// Each row changed in its place.
+pub fn revise(t: @Table@, q: {change}) -> @Table@
+    ensures {{ λ r. ⌜ take (r .count) (r .rows) ≡ map ({means} q) (take (t .count) (t .rows)) ⌝ }}
+{{
+    let n = sorted::used(t.count, @CAPACITY@);
     let mut u = t;
     let mut i: usize = 0;
     while i < n {{
-        let w = f.rows[i];
-        let o = put(u, w);
+        let row = u.rows[i];
+        let v = changed(row, q);
+        u.rows[i] = v;
+        i += 1;
+    }}
+    u.count = i;
+    u
+}}
+'''
+    before = f'''
+abbrev Inv-loop : tie.InvT-loop
+Inv-loop q n u₀ i₀ u i = Revising ({means} q) (u₀ .count) (cap @name@) n (u₀ .rows) (u .rows) i
+
+abbrev μ-loop : tie.MeasureT-loop
+μ-loop q n u₀ i₀ u i = n - i
+'''
+    proof = '''Inv-loop μ-loop
+    (λ c κs. tt)
+    (λ c. revise-start (search mapped) (c .used .ensures))
+    (λ c. omega arith)
+    (λ c. omega arith)
+    (λ c κs. tt)
+    (λ c. omega arith)
+    (λ c. omega arith)
+    (λ c. omega arith)
+    (λ c. omega arith)
+    (λ c. rw (c .changed .ensures) (revise-next (c^3 .loop .inv) _ (omega arith)))
+    (λ c. revise-end (c^1 .loop .inv) (omega arith))'''
+    return Function('revise', source, proof, why='The loop changes each row.', before=before)
+
+
+def PutAll(about, params, few, most, item, row, make, wished):
+    """A public function that puts a row for each member of a struct { rows: [Item; most], count } in, one after the other.
+
+    params  [(name, type)] of what else the row is made of      row   the row, of the params and a member `item`
+    make    the row in the definitions                          wished   the edits, of the members
+    """
+    source = f'''
+// {about}
+pub fn put_all(t: @Table@, {', '.join(f'{n}: {ty}' for n, ty in params)}, few: {few}) -> Offer
+    ensures {{ λ r. ⌜ Offered (cap @name@) (changed @name@ ({wished} (take (few .count) (few .rows))) (take (t .count) (t .rows))) (take (r .table .count) (r .table .rows)) (r .done) ⌝ }}
+{{
+    let n = sorted::used(few.count, {most});
+    let mut u = t;
+    let mut i: usize = 0;
+    while i < n {{
+        let {item} = few.rows[i];
+        let row = {row};
+        let o = put(u, row);
         if o.done {{
             u = o.table;
             i += 1;
@@ -533,24 +725,25 @@ pub fn put_all(t: @Table@, f: {few}) -> Offer
     }}
 }}
 '''
+    arguments = ' '.join(n for n, _ in params)
     before = f'''
 abbrev Inv-loop : tie.InvT-loop
-Inv-loop t f n u₀ i₀ u i = Putting (key @name@) (cmp @name@) @capacity@ (f .count) {most} n (f .rows) (take (u₀ .count) (u₀ .rows)) (take (u .count) (u .rows)) i
+Inv-loop t {arguments} few n u₀ i₀ u i = Putting (keyOf @name@) (cmp @name@) ({make}) (cap @name@) (few .count) {most} n (few .rows) (take (u₀ .count) (u₀ .rows)) (take (u .count) (u .rows)) i
 
 abbrev μ-loop : tie.MeasureT-loop
-μ-loop t f n u₀ i₀ u i = n - i
+μ-loop t {arguments} few n u₀ i₀ u i = n - i
 '''
     proof = '''Inv-loop μ-loop
     (λ c κs. tt)
-    (λ c. put-start _ _ _ _ _ _ _ _ (search mapped) (c .used .ensures) (taken-fits (c .before .args .t .count) @capacity@ (c .before .args .t .rows) (search mapped)))
+    (λ c. put-start _ _ _ _ _ _ _ _ _ (search mapped) (c .used .ensures) (taken-fits (c^1 .args .t .count) (cap @name@) (c^1 .args .t .rows) (search mapped)))
     (λ c. omega arith)
     (λ c. omega arith)
     (λ c κs. tt)
     (λ c. omega arith)
     (λ c. omega arith)
-    (λ c. put-next _ _ _ _ _ _ _ _ (c .before .before .before .before .before .loop .inv) _ _ (omega arith) (c .before .before .put .ensures .rows (c .before .if1 .taken)) (sym (c .before .before .put .ensures .had) ∙ c .before .if1 .taken))
-    (λ c. put-stop _ _ _ _ _ _ _ _ (c .before .before .before .before .loop .inv) _ _ (omega arith) (sym (c .before .put .ensures .had) ∙ c .if1 .left))
-    (λ c. put-end _ _ _ _ _ _ _ _ (c .before .loop .inv) (omega arith))'''
+    (λ c. put-next _ _ _ _ _ _ _ _ _ (c^5 .loop .inv) _ _ (omega arith) (c^2 .put .ensures .rows (c^1 .if1 .taken)) (sym (c^2 .put .ensures .had) ∙ c^1 .if1 .taken))
+    (λ c. put-stop _ _ _ _ _ _ _ _ _ (c^4 .loop .inv) _ _ (omega arith) (sym (c^1 .put .ensures .had) ∙ c .if1 .left))
+    (λ c. put-end _ _ _ _ _ _ _ _ _ (c^1 .loop .inv) (omega arith))'''
     return Function('put_all', source, proof, why='The loop puts the rows in, up to the first that finds no room.', before=before)
 
 
@@ -595,20 +788,39 @@ def key_words(table):
     names = [p.name for p in table.key]
     if len(set(names)) < len(names) or any(n in names for cites in table.cites.values() for n in cites):
         sys.exit(f'{table.name}: two parts of the key, or a part and something cited, have one name: {names}')
-    term, answer = names[-1], f'by_{names[-1]}'
-    for n in reversed(names[:-1]):
-        term, answer = f'({n}, {term})', f'sorted::then(by_{n}, {answer})'
-    stands, order, own = [], [], []
-    for part in table.key:
-        lines, value = part.of('w')
-        order += [l for l in lines if l not in order]
-        stands += [l for l in lines if l not in stands] + [f'let by_{part.name} = {part.compare()}({part.name}, {value});']
-        own.append(value)
+    term, answer = table.key[-1].term(), f'by_{names[-1]}'
+    for p in reversed(table.key[:-1]):
+        term = f'{p.term()}, ({term})' if ',' in term else f'{p.term()}, {term}'
+        answer = f'sorted::then(by_{p.name}, {answer})'
+    stands = [l for p in table.key for l in p.compared()[0]]
     if len(names) == 1:
         answer = stands.pop()[len(f'let by_{names[0]} = '):-1]
+    read, held = [], {}
+    for p in table.key:
+        *holders, last = p.path.split('.')
+        for i, h in enumerate(holders):
+            if h not in held:
+                held[h] = 1
+                read.append(f'let {h} = {(["row"] + holders)[i]}.{h};')
+        read.append(f'let {last} = {(["row"] + holders)[-1]}.{last};')
     body = lambda lines: '\n'.join('    ' + l for l in lines)
-    return dict(keyparams=', '.join(f'{p.name}: {p.type()}' for p in table.key), keynames=', '.join(names), keyterm=term,
-                standsbody=body(stands + [answer]), orderbody=body(order + [f'stands({", ".join(own)}, x)']))
+    return dict(keyparams=', '.join(f'{p.name}: {p.type}' for p in table.key), keynames=', '.join(names), keyterm=term,
+                standsbody=body(stands + [answer]), orderbody=body(read + [f'stands({", ".join(names)}, other)']))
+
+
+def stands_proof(table):
+    """Each part is compared, and the answers are put together from the last on: one rewriting by what the calls ensure."""
+    needs, places = [], []
+    for p in table.key:
+        _, asked, met = p.compared()
+        needs, places = needs + asked, places + met
+    needs, places = needs + ['(λ c κs. tt)'] * (len(table.key) - 1), places + ['then'] * (len(table.key) - 1)
+    told = []
+    for i, p in enumerate(places):
+        nth = places[:i + 1].count(p)
+        if p in ('is-secure', 'compare', 'compare-bools', 'then'):
+            told.append(f'c^{len(places) - 1 - i} .{p}{nth if nth > 1 else ""} .ensures')
+    return ' '.join(needs), ', '.join(reversed(told))
 
 
 def write(path, text):
@@ -618,59 +830,68 @@ def write(path, text):
 
 
 def crate(table, folder):
-    words = dict(name=table.name, crate=table.crate, capacity=table.capacity, about=table.about,
+    words = dict(name=table.name, crate=table.crate, about=table.about, CAPACITY=table.capacity.split('::')[-1],
                  Row=table.row.split('::')[-1], Table=table.table.split('::')[-1])
     words.update(key_words(table))
-    fields = [(p.name, p.type()) for p in table.key]
+    fields = [(p.name, p.type) for p in table.key]
     names, term = words['keynames'], words['keyterm']
-    tests = [Test('KeyIs', fields, f'key_is(w, {names})', f'same (cmp {table.name} {term} (key {table.name} w))'),
-             Test('KeyIsNot', fields, f'key_is_not(w, {names})', f'not (same (cmp {table.name} {term} (key {table.name} w)))')] + table.tests
+    tests = [Test('KeyIs', fields, f'key_is(row, {names})', f'same (cmp {table.name} ({term}) (keyOf {table.name} row))'),
+             Test('KeyIsNot', fields, f'key_is_not(row, {names})', f'not (same (cmp {table.name} ({term}) (keyOf {table.name} row)))')] + table.tests
     called = [f for f in table.functions if 'pub fn' not in f.source]
     root = os.path.join(folder, table.crate)
 
     # the code
-    words['uses'] = '\n'.join(f'use {p};' for p in sorted(set([table.row, table.table] + table.uses)))
-    words['variants'] = ''.join(f'\n    {t.variant}({", ".join(ty for _, ty in t.fields)}),' for t in tests)
-    words['arms'] = ''.join(f'\n        Which::{t.variant}({", ".join(n for n, _ in t.fields)}) => {t.call},' for t in tests)
-    words['tested'] = ''.join(f.source for f in called)
+    variant = lambda t, names: t.variant + (f'({", ".join(names)})' if names else '')
+    words['variants'] = ''.join(f'\n    {variant(t, [ty for _, ty in t.fields])},' for t in tests)
+    words['arms'] = ''.join(f'\n        Which::{variant(t, [n for n, _ in t.fields])} => {t.call},' for t in tests)
+    words['changes'] = ''.join(f.source for f in table.functions if 'fn ' not in f.source)
+    words['tested'] = ''.join(f.source for f in called if 'fn ' in f.source)
     words['offered'] = ''.join(f.source for f in table.functions if f not in called)
-    words['ghosts'] = ''
-    ghosts = together(GHOSTS, table.cites, {f'Rattle.{table.crate}.specs.Which': ['passes']})
-    contracts = '\n'.join(l for l in fill(SOURCE, words).split('\n') if '⌜' in l)
-    words['ghosts'] = cited(contracts, ghosts, 'ghost use {module}.{names};')
+    words['blank'] = '\n'.join('    ' + l for l in table.blank_lets + [table.blank])
+    words['ghosts'] = words['uses'] = ''
+    text = fill(SOURCE, words)
+    uses = [u for u in table.uses if occurs(u.split('::')[-1], '\n'.join(l for l in text.split('\n') if '⌜' not in l and '//' not in l))]
+    words['uses'] = '\n'.join(f'use {p};' for p in sorted(set([table.row, table.table, table.capacity] + uses)))
+    own_specs = f'Rattle.{table.crate}.specs.Which'
+    defined = ['passes'] + re.findall(r'abbrev pub (\S+) :', table.meanings)
+    ghosts = together(GHOSTS, table.cites, {own_specs: defined})
+    words['ghosts'] = cited('\n'.join(l for l in text.split('\n') if '⌜' in l), ghosts, 'ghost use {module}.{names};')
     write(f'{root}/src/lib.rt', fill(SOURCE, words))
 
     # what the tests mean
-    words['clauses'] = ''.join(f'\npasses ({t.variant} {" ".join(n for n, _ in t.fields)}) w = {t.meaning}' for t in tests)
-    own = {table.declared: [words['Row']], f'Rattle.{table.crate}.specs.declared.Which': ['Which'],
+    clause = lambda t: f'({t.variant} {" ".join(n for n, _ in t.fields)})' if t.fields else t.variant
+    words['and'] = ', and what else the contracts say' if table.meanings else ''
+    words['clauses'] = fill(''.join(f'\npasses {clause(t)} row = {t.meaning}' for t in tests), words)
+    words['meanings'] = fill(table.meanings, words)
+    own = {f'Rattle.{table.crate}.specs.declared.Which': ['Which'],
            f'Rattle.{table.crate}.specs.declared.Which.the-variants': [t.variant for t in tests]}
-    words['cites'] = cited('Which Bool ' + words['Row'] + ' ' + words['clauses'], together(WHICH_CITES, table.cites, own), 'use {module}.{names}')
+    words['cites'] = cited('Which Bool ' + words['Row'] + ' ' + words['clauses'] + words['meanings'], together(WHICH_CITES, table.cites, own), 'use {module}.{names}')
     write(f'{root}/specs/Lib.antt', 'pub mod Which\n')
     write(f'{root}/specs/Which.antt', fill(WHICH, words))
 
-    for label in table.refused:
-        old, new = EDITS[label]
+    for label, (old, new) in list((label, EDITS[label]) for label in table.refused) + list(table.edits.items()):
         write(f'{root}/must-fail/{label}.edit', f'file: src/lib.rt\nold: {old}\nnew: {new}\n')
 
     # the proofs
     def prove(fn, why, before, proof, cites={}, unfolding=''):
         words.update({'fn': fn, 'fn-': antt(fn), 'why': why, 'proof': proof,
                       'before': before, 'unfolding': f'\nunfolding {unfolding}' if unfolding else '', 'cites': ''})
-        every = {fill(m, words): n for m, n in together(PROOF_CITES, table.cites, cites).items()}
+        every = {fill(m, words): n for m, n in together(PROOF_CITES, table.cites, cites, {own_specs: defined}).items()}
         words['cites'] = cited(fill(before + proof + ' ' + unfolding, words), every, 'use {module}.{names}')
-        write(f'{root}/proofs/{fn}/Proof.antt', re.sub(r'\n\n\n+', '\n\n', fill(PROOF, words)).replace('py.\n\nuse', 'py.\nuse'))
+        text = re.sub(r'\bc\^(\d+)', lambda m: 'c' + ' .before' * int(m.group(1)), fill(PROOF, words))
+        write(f'{root}/proofs/{fn}/Proof.antt', re.sub(r'\n\n\n+', '\n\n', text).replace('py.\n\nuse', 'py.\nuse'))
 
     for fn, (why, before, proof) in PROOFS.items():
         prove(fn, why, before, proof)
-    casts = lambda p: '' if p.through or p.kind == 'flag' else ' (λ c. search needs)'
-    if len(table.key) > 1 or any(p.through for p in table.key):
-        made = ''.join(casts(p) + ' (λ c κs. tt)' * (2 if p.through else 1) for p in table.key) + ' (λ c κs. tt)' * (len(table.key) - 1)
-        prove('stands', 'Part by part.', '', made.strip() + ' (λ c. cc)')
-    if any(p.through for p in table.key):
-        made = ''.join(' (λ c κs. tt)' if p.through else casts(p) for p in table.key)
-        prove('order', 'The key of w, part by part.', '', made.strip() + ' (λ c κs. tt) (λ c. cc)')
+    if len(table.key) > 1:
+        needs, told = stands_proof(table)
+        prove('stands', 'Part by part.', '', f'{needs} (λ c. rw ({told}))')
     arms = ''.join(' (λ c. search needs) (λ c κs. tt)' for _ in tests)
-    told = ''.join(f'\n  (λ c. rw (c .before .before .q{"" if i == 0 else i + 1} .given .1) (c .{antt(t.call.split("(")[0])} .ensures))' for i, t in enumerate(tests))
+    told, held, bare = '', 0, 0
+    for t in tests:
+        held, bare = (held + 1, bare) if t.fields else (held, bare + 1)
+        case = f'c^2 .q{"" if held == 1 else held}' if t.fields else f'c^1 .enum-told{"" if bare == 1 else bare}'
+        told += f'\n  (λ c. rw ({case} .given .1) (c .{antt(t.call.split("(")[0])} .ensures))'
     prove('test', 'Each arm is one call.', '', arms.strip() + told)
     for f in table.functions:
         if f.proof:

@@ -4,8 +4,8 @@
 A writer's contract is `Writes term before at after next` of csexp_write, or `Items terms ..` for terms that may be absent. Its proof is a
 law of csexp_write's proofs/Steps for each call, one to a line: `open_list` or `open_word`, writers of parts and `close_list`, lists in
 lists too; a call that ensures `Items` is spliced in. Behind a `match` the tool rewrites by the arm's equation. A return that it has no law
-for gets a hole. It goes round until no more files come, since a caller's lines are printed only once its callees are proved. A loop is
-proved by hand, over the laws items-.. of the same file."""
+for, as one behind an `if`, gets a hole. It goes round until no more files come, since a caller's lines are printed only once its callees
+are proved. A loop is proved by hand, over the laws items-.. of the same file."""
 import glob, re, sys
 from needs import dots, ensures, left
 
@@ -44,11 +44,24 @@ def answer(calls, is_items):
     if b in opening:
         lines, open_, _ = chain(calls, 1)
         lines = [f'({opening[b]} {ensures(*calls[0])}'] + lines
+        if is_items:
+            lines, open_ = [f'(single {lines[0]}'] + lines[1:], open_ + 1
         return '\n'.join(lines[:-1] + [lines[-1] + ')' * (open_ + 1)]).split('\n')
     if len(calls) == 1:
         one = ensures(*calls[0])
         return [f'(single {one})' if is_items and b not in items else one]
     return None
+
+
+def named(lines):
+    """The lines with a name for each place that they go back to, where these are more than two: c₁ is the last, c₂ lies before it."""
+    back = r'\bc((?: \.before)+)'
+    steps = sorted({m.count('.before') for line in lines for m in re.findall(back, line)})
+    if len(steps) < 3:
+        return lines
+    names = {n: 'c' + str(i + 1).translate(str.maketrans('0123456789', '₀₁₂₃₄₅₆₇₈₉')) for i, n in enumerate(steps)}
+    lets = [f'let {names[n]} = {names.get(b, "c")}{" .before" * (n - b)} in' for b, n in zip([0] + steps, steps)]
+    return lets + [re.sub(back, lambda m: names[m.group(1).count('.before')], line) for line in lines]
 
 
 def write(f):
@@ -62,14 +75,15 @@ def write(f):
         if need.startswith('same-length') and calls:
             # `search needs` finds this for at most eight calls
             kept = [f'({dots(steps)} .{thing} .kept .0)' for thing, steps in calls[::-1]]
-            body += [f'{need} c =', '    ' + kept[0]] + ['    ∙ ' + k for k in kept[1:]] + ['']
+            body += [f'{need} c ='] + ['    ' + line for line in named([kept[0]] + ['∙ ' + k for k in kept[1:]])] + ['']
             laws.add('∙')
             continue
-        lines = answer(calls, f.name.replace('_', '-') in items) if need.startswith('returns') else None
+        tested = any(re.fullmatch(r'if\d+', thing) for thing, place, steps in way)
+        lines = answer(calls, f.name.replace('_', '-') in items) if need.startswith('returns') and not tested else None
         if lines and told:
             lines = [f'rw ({dots(told[-1][1])} .{told[-1][0]} .given .1)'] + lines
         laws |= set(re.findall(r'\((opened|opened-word|passed|closed|spliced|ended|single|absent) ', ' '.join(lines or [])))
-        body += [f'{need} c = ?', ''] if not lines else [f'{need} c = ' + ' '.join(lines), ''] if len(lines) < 3 else [f'{need} c ='] + ['    ' + line for line in lines] + ['']
+        body += [f'{need} c = ?', ''] if not lines else [f'{need} c = ' + ' '.join(lines), ''] if len(lines) < 3 else [f'{need} c ='] + ['    ' + line for line in named(lines)] + ['']
     uses = ['use borrow.Author.Needs.{needs}']
     uses += ['use native.Mathlib.Omega.{arith}'] if 'absent' in laws else []
     uses += ['use mathlib.Core.Path.{_∙_}'] if '∙' in laws else []

@@ -47,9 +47,9 @@ pub adds-drops : {A K : Type 0} (R : Type 0) (f : A → K) (l : List A) → adds
 adds-drops R f [] = refl
 adds-drops R f (x ∷ l) = adds-drops R f l
 
-pub puts-only : {R : Type 0} (K : Type 0) (l : List R) → putsOnly {R = R} {K = K} (map put l) ≡ true
-puts-only K [] = refl
-puts-only K (x ∷ l) = puts-only K l
+pub puts-only : {A R : Type 0} (K : Type 0) (f : A → R) (l : List A) → putsOnly {R = R} {K = K} (map (λ x. put (f x)) l) ≡ true
+puts-only K f [] = refl
+puts-only K f (x ∷ l) = puts-only K f l
 
 module _ {R K : Type 0} (key : R → K) (cmp : K → K → Order) where
   -- MEMBERS: a row of an edited table was there or is put.
@@ -107,11 +107,11 @@ module _ {R K : Type 0} (key : R → K) (cmp : K → K → Order) where
   length-puts (sift p ∷ es) l e = absurd (false≢true e)
 
   -- no room for one, no room for all
-  pub no-room : (capacity : ℕ) (rest l : List R) → leb (length l) capacity ≡ false → leb (length (acts key cmp (map put rest) l)) capacity ≡ false
-  no-room capacity rest l e =
+  pub no-room : (capacity : ℕ) (es : List (Edit R K)) (l : List R) → putsOnly es ≡ true → leb (length l) capacity ≡ false → leb (length (acts key cmp es l)) capacity ≡ false
+  no-room capacity es l only e =
       let h : capacity < length l = leb-false _ _ e in
-      let g = length-puts (map put rest) l (puts-only K rest) in
-      lt-leb (length (acts key cmp (map put rest) l)) capacity (omega arith)
+      let g = length-puts es l only in
+      lt-leb (length (acts key cmp es l)) capacity (omega arith)
 
   pub acts-append : (es fs : List (Edit R K)) (l : List R) → acts key cmp (es ++ fs) l ≡ acts key cmp fs (acts key cmp es l)
   acts-append [] fs l = refl

@@ -13,5 +13,6 @@ pub mod Seek
 pub mod Open
 pub mod First
 pub mod Keep
+pub mod Revising
 pub mod Collect
 pub mod Putting

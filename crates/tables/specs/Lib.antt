@@ -3,3 +3,4 @@ pub mod Nouns
 pub mod Tables
 pub mod Labels
 pub mod Rows
+pub mod View

@@ -36,3 +36,15 @@ pub struct Wants {
     pub key: bool,
     pub document: bool,
 }
+
+// Some windows, by number: as many as there may be, and one more. The first `count` count, and a count beyond the room for them is read as that.
+pub struct WindowNumbers {
+    pub rows: [WindowNumber; 33],
+    pub count: usize,
+}
+
+// Some documents, by number: as many as there may be.
+pub struct DocumentNumbers {
+    pub rows: [DocumentNumber; 64],
+    pub count: usize,
+}

@@ -1,0 +1,14 @@
+-- Each arm is one call. Written by tools/tables.py.
+use Prim.Native.Nat.{_-_}
+use borrow.Author.Needs.{needs}
+use Rattle.cookies.proofs.test.Statement.{statement}
+use Rattle.cookies.proofs.test.Tie as tie
+
+pub test-spec : {M : Type 1} → statement M
+test-spec = tie.close (tie.spec (λ c. search needs) (λ c κs. tt) (λ c. search needs) (λ c κs. tt) (λ c. search needs) (λ c κs. tt) (λ c. search needs) (λ c κs. tt) (λ c. search needs) (λ c κs. tt) (λ c. search needs) (λ c κs. tt)
+    (λ c. rw (c .before .before .q .given .1) (c .key-is .ensures))
+    (λ c. rw (c .before .before .q2 .given .1) (c .key-is-not .ensures))
+    (λ c. rw (c .before .before .q3 .given .1) (c .of-host .ensures))
+    (λ c. rw (c .before .before .q4 .given .1) (c .goes-to .ensures))
+    (λ c. rw (c .before .enum-told .given .1) (c .lasts .ensures))
+    (λ c. rw (c .before .before .q5 .given .1) (c .guards .ensures)))

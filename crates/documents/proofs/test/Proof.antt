@@ -1,0 +1,18 @@
+-- Each arm is one call. Written by tools/tables.py.
+use Prim.Native.Nat.{_-_}
+use borrow.Author.Needs.{needs}
+use Rattle.documents.proofs.test.Statement.{statement}
+use Rattle.documents.proofs.test.Tie as tie
+
+pub test-spec : {M : Type 1} → statement M
+test-spec = tie.close (tie.spec (λ c. search needs) (λ c κs. tt) (λ c. search needs) (λ c κs. tt) (λ c. search needs) (λ c κs. tt) (λ c. search needs) (λ c κs. tt) (λ c. search needs) (λ c κs. tt) (λ c. search needs) (λ c κs. tt) (λ c. search needs) (λ c κs. tt) (λ c. search needs) (λ c κs. tt) (λ c. search needs) (λ c κs. tt) (λ c. search needs) (λ c κs. tt)
+    (λ c. rw (c .before .before .q .given .1) (c .key-is .ensures))
+    (λ c. rw (c .before .before .q2 .given .1) (c .key-is-not .ensures))
+    (λ c. rw (c .before .before .q3 .given .1) (c .in-window .ensures))
+    (λ c. rw (c .before .enum-told .given .1) (c .is-active .ensures))
+    (λ c. rw (c .before .before .q4 .given .1) (c .number-is .ensures))
+    (λ c. rw (c .before .before .q5 .given .1) (c .later-than .ensures))
+    (λ c. rw (c .before .before .q6 .given .1) (c .up-to .ensures))
+    (λ c. rw (c .before .before .q7 .given .1) (c .just-before .ensures))
+    (λ c. rw (c .before .before .q8 .given .1) (c .just-after .ensures))
+    (λ c. rw (c .before .before .q9 .given .1) (c .mentioned .ensures)))

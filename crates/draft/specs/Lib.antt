@@ -1,0 +1,4 @@
+-- What a browser in the making is held to, and what a step gives of it.
+pub mod Holds
+pub mod Effects
+pub mod Gives

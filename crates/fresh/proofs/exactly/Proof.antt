@@ -1,0 +1,15 @@
+-- The five numbers one by one.
+use mathlib.Core.Path.{_∙_}
+use Rattle.fresh.specs.Wanted.{agrees}
+use Rattle.fresh.proofs.Exact.{five}
+use Rattle.fresh.proofs.exactly.Statement.{statement}
+use Rattle.fresh.proofs.exactly.Tie as tie
+
+returns : tie.Need-returns
+returns c =
+    let a = c .before .before .before .before .before .before .before .before .before .before .before .before .before .before .args in
+    rw (c .both4 .ensures, c .before .agrees5 .ensures, c .before .before .both3 .ensures, c .before .before .before .agrees4 .ensures, c .before .before .before .before .both2 .ensures, c .before .before .before .before .before .agrees3 .ensures, c .before .before .before .before .before .before .both .ensures, c .before .before .before .before .before .before .before .agrees2 .ensures, c .before .before .before .before .before .before .before .before .agrees .ensures)
+    (five (agrees (a .w .window) (a .f .window .0)) (agrees (a .w .request) (a .f .request .0)) (agrees (a .w .dns) (a .f .dns .0)) (agrees (a .w .key) (a .f .key .0)) (agrees (a .w .document) (a .f .document .0)))
+
+pub exactly-spec : {M : Type 1} → statement M
+exactly-spec = tie.close (tie.spec (λ c κs. tt) (λ c κs. tt) (λ c κs. tt) (λ c κs. tt) (λ c κs. tt) (λ c κs. tt) (λ c κs. tt) (λ c κs. tt) (λ c κs. tt) returns)

@@ -1,0 +1,2 @@
+-- Where a byte is sought.
+pub mod Sought

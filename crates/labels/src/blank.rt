@@ -1,0 +1,62 @@
+// What fills a place of which nothing is said.
+use types::addresses::Fragment;
+use types::addresses::Host;
+use types::addresses::Parameters;
+use types::addresses::Path;
+use types::addresses::Protocol;
+use types::addresses::Url;
+use types::cookies::CookieName;
+use types::cookies::CookieValue;
+use types::cookies::Jar;
+use types::cookies::Pair;
+use types::labels::RequestNumber;
+use types::requests::Data;
+use types::requests::Method;
+use types::requests::OriginHeader;
+use types::requests::Referrer;
+use types::requests::Request;
+ghost use mathlib.Core.Path.{_≡_};
+ghost use mathlib.Core.List.{[]};
+ghost use Rattle.tables.specs.Rows.{jar};
+
+// No cookies: also what the collecting of cookies begins with.
+pub fn empty_jar() -> Jar
+    ensures { λ r. ⌜ r ≡ jar [] ⌝ }
+{
+    let none = Pair {
+        name: CookieName {
+            prefixed: false,
+            number: 0,
+        },
+        value: CookieValue(0),
+    };
+    Jar {
+        rows: [none; 64],
+        count: 0,
+    }
+}
+
+pub fn no_url() -> Url {
+    Url {
+        protocol: Protocol::Plain,
+        host: Host(0),
+        path: Path(0),
+        parameters: Parameters(0),
+        fragment: Fragment::Absent,
+    }
+}
+
+pub fn no_request() -> Request {
+    let cookies = empty_jar();
+    Request {
+        number: RequestNumber(0),
+        method: Method::Get,
+        host: Host(0),
+        path: Path(0),
+        parameters: Parameters(0),
+        cookies: cookies,
+        origin: OriginHeader::Unsent,
+        referrer: Referrer::Unknown,
+        body: Data(0),
+    }
+}

@@ -1,0 +1,2 @@
+-- What a row of the code's table says.
+pub mod Spelt

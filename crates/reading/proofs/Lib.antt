@@ -1,0 +1,2 @@
+-- The laws of whole texts.
+pub mod Takings

@@ -1,0 +1,2 @@
+-- What reading a text answers.
+pub mod Readings

@@ -1,0 +1,2 @@
+-- The headers of an answer, one by one.
+pub mod Headers

@@ -1,0 +1,2 @@
+-- What the loop over the cookies of a list hands back.
+pub mod Gathered

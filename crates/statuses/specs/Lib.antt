@@ -1,0 +1,2 @@
+-- What a status number says.
+pub mod Status

@@ -1,0 +1,2 @@
+-- Nothing of an event that went out is lost.
+pub mod Backs
