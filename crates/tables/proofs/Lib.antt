@@ -1,2 +1,3 @@
 -- What is said of all nine tables at once.
 pub mod Update
+pub mod Mentioned

@@ -11,6 +11,7 @@ pub mod Response
 pub mod Main
 pub mod Step
 pub mod View
+pub mod Shown
 pub mod Local
 pub mod Invariant
 pub mod Wire

@@ -9,11 +9,12 @@ use Rattle.types.specs.declared.refusals.Verdict.{Verdict}
 use Rattle.types.specs.declared.refusals.Verdict.the-variants.{Accepted, Refused}
 use Rattle.tables.specs.Tables.{windows, documents}
 use Rattle.csexp.specs.Text.{text}
-use Rattle.csexp.specs.Term.{Term, atom, list}
+use Rattle.csexp.specs.Term.{Term, atom, list, decimal, write}
 use Rattle.csexp.specs.Read.{Got, no, got, read}
 use Rattle.shapes.specs.Texts.{itemIn}
 use Rattle.wim.specs.Navigable.{navigableMask, navigableSize}
 use Rattle.wim.specs.Step.{refusalNumber, Browser, emptyBrowser}
+use Rattle.wim.specs.Shown.{Shown, hidden, shown, whatIsShown}
 use Rattle.wim.specs.Wire.{Reply, rehearse}
 use Rattle.wim.specs.Run.{performed, after}
 use Rattle.wim.specs.Points.Compared.{Run, equal, prints}
@@ -321,3 +322,11 @@ room =
 abbrev pub allTrue : List Bool → Bool
 allTrue [] = true
 allTrue (b ∷ bs) = b && allTrue bs
+
+-- What a script is shown, as text; the refusal's number where nothing is.
+abbrev pub shownText : Shown → List ℕ
+shownText (hidden r) = decimal (refusalNumber r)
+shownText (shown t) = write t
+
+abbrev pub shownIn : ℕ → Browser → List ℕ
+shownIn w b = shownText (whatIsShown b (record { 0 = w }))

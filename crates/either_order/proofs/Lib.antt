@@ -1,0 +1,25 @@
+-- Demand 3, in reading order: what an answer depends on, programs that keep to a part, what belongs to a step, each local kind, the theorem.
+pub mod Sight
+pub mod Part
+pub mod Keeps
+pub mod Commute
+pub mod Depth
+pub mod Listed
+pub mod Colour
+pub mod Owned
+pub mod Shared
+pub mod Seeds
+pub mod Scripts
+pub mod Answers
+pub mod Kept
+pub mod Admitted
+pub mod Known
+pub mod StillFresh
+pub mod Mine
+pub mod Disjoint
+pub mod EitherOrder
+pub mod Named
+pub mod FewCookies
+pub mod OnTexts
+pub mod InARun
+pub mod TwoTabs
