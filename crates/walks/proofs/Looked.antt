@@ -5,7 +5,7 @@ use mathlib.Core.List.{List}
 use mathlib.Core.Option.{Option, none, some}
 use Rattle.sorted.specs.Table.{looked, isSome}
 use Rattle.tables.specs.Rows.{originOf, sameOrigin}
-use Rattle.wim.specs.Nouns.{WindowNumber, Window, Document, Parent, Top, Under}
+use Rattle.wim.specs.Nouns.{Window, Document, Parent, Top, Under}
 use Rattle.wim.specs.Walks.{isReached}
 use Rattle.wim.specs.Program.{isTop, when, withOrigin, listens}
 use Rattle.walks.specs.Told.{isHighest}

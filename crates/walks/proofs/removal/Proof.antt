@@ -1,8 +1,7 @@
 -- Windows and documents are collected apart.
-use mathlib.Core.Path.{_≡_, ap₂}
+use mathlib.Core.Path.{ap₂}
 use mathlib.Core.List.{List}
 use Rattle.wim.specs.Nouns.{WindowNumber, DocumentNumber}
-use Rattle.wim.specs.Walks.{Removal}
 use Rattle.walks.proofs.removal.Statement.{statement}
 use Rattle.walks.proofs.removal.Tie as tie
 
