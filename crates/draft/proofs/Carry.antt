@@ -134,3 +134,8 @@ draft-fits {ts} {w} {d} all h = go (d .full) refl
     go : (x : Bool) → d .full ≡ x → fits w ≡ not x
     go true p = let l = h .long p in every-false (fit w) (l .0) (l .2)
     go false p = ap fits (sym (h .rows p)) ∙ every-true (fit (rowsOf (d .browser))) all
+
+-- a draft that is full stays so, whatever is put in
+pub still-full : {ts : List Table} {w : Tables} {d : Draft} → Holds ts w d → d .full ≡ true → (t : Table) (es : Edits t) → putsOnly es ≡ true → fits (apply t es w) ≡ false
+unfolding fits
+still-full {ts} {w} {d} h p t es o = let l = h .long p in every-false (fit (apply t es w)) (l .0) (still-long _ _ _ (l .2) (long-put t es w o (l .0)))

@@ -1,38 +1,20 @@
 -- What a step's code gives: what the definitions say, and at a refusal the very browser that it was asked of.
 use mathlib.Core.Path.{_≡_}
 use mathlib.Core.Bool.{Bool}
-use mathlib.Core.List.{List, []}
+use mathlib.Core.List.{List}
 use Rattle.types.specs.declared.browser.Browser.{Browser as State}
 use Rattle.types.specs.declared.browser.Draft.{Draft}
 use Rattle.types.specs.declared.refusals.Performed.{Performed}
 use Rattle.types.specs.declared.refusals.Refusal.{Refusal}
 use Rattle.types.specs.declared.refusals.Verdict.the-variants.{Refused}
-use Rattle.types.specs.declared.requests.Method.the-variants.{Get}
-use Rattle.types.specs.declared.requests.OriginHeader.the-variants.{Unsent}
-use Rattle.types.specs.declared.requests.Referrer.the-variants.{Unknown}
 use Rattle.types.specs.declared.requests.Request.{Request}
 use Rattle.types.specs.declared.requests.Sent.{Sent}
 use Rattle.tables.specs.Tables.{Table, Tables}
-use Rattle.tables.specs.Rows.{jar}
 use Rattle.shapes.specs.Events.{messageOf}
 use Rattle.wim.specs.Program.{made}
 use Rattle.wim.specs.Step.{Result, fitted, concluded}
 use Rattle.wim.specs.View.{view, told, settled}
 use Rattle.draft.specs.Holds.{Holds}
-
--- stands where no request goes out
-abbrev pub blankRequest : Request
-blankRequest = record {
-  number = record { 0 = 0 };
-  method = Get;
-  host = record { 0 = 0 };
-  path = record { 0 = 0 };
-  parameters = record { 0 = 0 };
-  cookies = jar [];
-  origin = Unsent;
-  referrer = Unknown;
-  body = record { 0 = 0 };
-}
 
 pub record Answers (b : State) (o : Result) (r : Performed) : Type 0 where
   pub tells : told r ≡ settled (view b) o

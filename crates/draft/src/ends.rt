@@ -1,25 +1,16 @@
 // From a browser to a draft, and from a draft, or a refusal, to what the step gives.
-use types::addresses::Host;
-use types::addresses::Parameters;
-use types::addresses::Path;
 use types::browser::Browser;
 use types::browser::Draft;
-use types::labels::RequestNumber;
 use types::refusals::Performed;
 use types::refusals::Refusal;
 use types::refusals::Verdict;
-use types::requests::Data;
-use types::requests::Method;
-use types::requests::OriginHeader;
-use types::requests::Referrer;
 use types::requests::Request;
 use types::requests::Sent;
-ghost use mathlib.Core.Path.{_≡_};
 ghost use mathlib.Core.List.{[]};
 ghost use Rattle.wim.specs.Step.{declined};
 ghost use Rattle.wim.specs.View.{rowsOf};
 ghost use Rattle.draft.specs.Holds.{Holds, Fitting};
-ghost use Rattle.draft.specs.Gives.{blankRequest, Answers, Concludes};
+ghost use Rattle.draft.specs.Gives.{Answers, Concludes};
 
 pub fn begin(b: Browser) -> Draft
     ensures { λ r. ⌜ Holds [] (rowsOf b) r ⌝ }
@@ -27,24 +18,6 @@ pub fn begin(b: Browser) -> Draft
     Draft {
         browser: b,
         full: false,
-    }
-}
-
-// Stands where no request goes out.
-pub fn no_request() -> Request
-    ensures { λ r. ⌜ r ≡ blankRequest ⌝ }
-{
-    let jar = labels::empty_jar();
-    Request {
-        number: RequestNumber(0),
-        method: Method::Get,
-        host: Host(0),
-        path: Path(0),
-        parameters: Parameters(0),
-        cookies: jar,
-        origin: OriginHeader::Unsent,
-        referrer: Referrer::Unknown,
-        body: Data(0),
     }
 }
 
@@ -56,7 +29,7 @@ pub fn refuse(b: Browser, why: Refusal) -> Performed
         verdict: Verdict::Refused(why),
         browser: b,
         sent: Sent::Silence,
-        request: no_request(),
+        request: labels::no_request(),
     }
 }
 

@@ -10,7 +10,6 @@ pub use drops::remove;
 pub use drops::revise;
 pub use ends::begin;
 pub use ends::conclude;
-pub use ends::no_request;
 pub use ends::refuse;
 pub use puts::put_cookies;
 pub use puts::put_document;

@@ -17,7 +17,7 @@ use types::requests::Referrer;
 use types::requests::Request;
 ghost use mathlib.Core.Path.{_≡_};
 ghost use mathlib.Core.List.{[]};
-ghost use Rattle.tables.specs.Rows.{jar};
+ghost use Rattle.tables.specs.Rows.{jar, blankUrl, blankRequest};
 
 // No cookies: also what the collecting of cookies begins with.
 pub fn empty_jar() -> Jar
@@ -36,7 +36,9 @@ pub fn empty_jar() -> Jar
     }
 }
 
-pub fn no_url() -> Url {
+pub fn no_url() -> Url
+    ensures { λ r. ⌜ r ≡ blankUrl ⌝ }
+{
     Url {
         protocol: Protocol::Plain,
         host: Host(0),
@@ -46,7 +48,9 @@ pub fn no_url() -> Url {
     }
 }
 
-pub fn no_request() -> Request {
+pub fn no_request() -> Request
+    ensures { λ r. ⌜ r ≡ blankRequest ⌝ }
+{
     let cookies = empty_jar();
     Request {
         number: RequestNumber(0),

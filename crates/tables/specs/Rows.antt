@@ -6,7 +6,7 @@ use lib.Dec.{eqb}
 use lib.ListN.{length}
 use Rattle.sorted.specs.Order.{cmpBool, same}
 use Rattle.sorted.specs.Table.{fill}
-use Rattle.tables.specs.Nouns.{WindowNumber, DocumentNumber, KeyNumber, Host, Protocol, Plain, Secure, Origin, CookieName, Cookie, Pair, Jar, Matching, Unmatched, By, Reference, Req, Xhr, Seal, Keyless, Keyed, Script, ScriptState, Document, HostCookie}
+use Rattle.tables.specs.Nouns.{WindowNumber, DocumentNumber, KeyNumber, Host, Protocol, Plain, Secure, Absent, Url, Origin, CookieName, Cookie, Pair, Jar, Get, Unsent, Unknown, Request, Matching, Unmatched, By, Reference, Req, Xhr, Seal, Keyless, Keyed, Script, ScriptState, Document, HostCookie}
 use Rattle.tables.specs.Tables.{isSecure}
 
 -- NUMBERS under their labels.
@@ -60,6 +60,23 @@ blankPair = record { name = record { prefixed = false; number = 0 }; value = rec
 -- the Cookie header with these pairs, blank behind them
 unfoldable pub jar : List Pair → Jar
 jar ps = record { rows = fill blankPair 64 ps; count = length ps }
+
+-- an address and a request with nothing in them
+abbrev pub blankUrl : Url
+blankUrl = record { protocol = Plain; host = record { 0 = 0 }; path = record { 0 = 0 }; parameters = record { 0 = 0 }; fragment = Absent }
+
+abbrev pub blankRequest : Request
+blankRequest = record {
+  number = record { 0 = 0 };
+  method = Get;
+  host = record { 0 = 0 };
+  path = record { 0 = 0 };
+  parameters = record { 0 = 0 };
+  cookies = jar [];
+  origin = Unsent;
+  referrer = Unknown;
+  body = record { 0 = 0 };
+}
 
 -- REFERENCES AND KEYS of waiting requests.
 abbrev pub sameMatching : Matching → Matching → Bool
