@@ -1,4 +1,3 @@
 -- The laws of drafts.
 pub mod Carry
 pub mod Judged
-pub mod Cancelling

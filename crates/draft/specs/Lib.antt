@@ -1,4 +1,3 @@
 -- What a browser in the making is held to, and what a step gives of it.
 pub mod Holds
-pub mod Effects
 pub mod Gives

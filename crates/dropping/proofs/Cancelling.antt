@@ -1,0 +1,15 @@
+-- A window's number without its label equals no reference, so that nothing is cancelled by it.
+use mathlib.Core.Path.{_≡_, refl, sym, ap, _∙_}
+use mathlib.Core.Bool.{true}
+use mathlib.Core.List.{List}
+use Rattle.types.specs.declared.labels.WindowNumber.{WindowNumber}
+use Rattle.types.specs.declared.requests.Cancelled.the-variants.{Bare}
+use Rattle.sorted.specs.Table.{keep}
+use Rattle.sorted.proofs.Member.{keep-all}
+use Rattle.tables.specs.Tables.{pendingDNS, pendingRequests, Tables}
+use Rattle.tables.proofs.Update.{same-tables}
+use Rattle.dropping.specs.Effects.{cancelled}
+
+pub bare-cancels-nothing : (v : WindowNumber) (w : Tables) → cancelled (Bare v) w ≡ w
+bare-cancels-nothing v w =
+    same-tables (cancelled (Bare v) w) w refl refl refl refl refl refl (keep-all (λ r. true) (w pendingDNS) (λ x i. refl)) (keep-all (λ r. true) (w pendingRequests) (λ x i. refl)) refl

@@ -1,0 +1,2 @@
+-- What is cancelled.
+pub mod Cancelling
