@@ -425,9 +425,35 @@ wrong-turn-xhr-redirect-under-window-number = record {
       ∷ [];
 }
 
+-- Cookies belong to the request's host only.
+abbrev pub cookies-by-host : Run
+cookies-by-host = record {
+  items =
+      "((1:11:17:TRIGGER)(6:urlbar3:new1:P1:51:7()())((6:window1:1)(7:request1:1)(3:dns1:1)))"
+      ∷ "((1:11:1(11:DNSResolved1:51:9(3:dns1:1)))()())"
+      ∷ "((1:11:1(8:HTTPResp(7:request1:1)3:200((10:Set-Cookie((1:3(1:11:F1:F1:F)))))(1:11:0)))()((8:document1:1)))"
+      ∷ "((1:11:17:TRIGGER)(6:urlbar3:new1:P1:61:7()())((6:window1:2)(7:request1:2)(3:dns1:2)))"
+      ∷ "((1:11:1(11:DNSResolved1:61:9(3:dns1:2)))()())"
+      ∷ "((1:11:1(8:HTTPResp(7:request1:2)3:200()(1:11:0)))()((8:document1:2)))"
+      ∷ "((1:11:17:TRIGGER)(6:urlbar(6:window1:2)1:P1:51:9()())((7:request1:3)(3:dns1:3)))"
+      ∷ "((1:11:1(11:DNSResolved1:51:9(3:dns1:3)))()())"
+      ∷ [];
+  lines =
+      "(1:21:1(10:DNSResolve1:5(3:dns1:1)))"
+      ∷ "(1:91:1(7:HTTPReq(7:request1:1)3:GET1:51:7()((6:Cookie()))()))"
+      ∷ "()"
+      ∷ "(1:21:1(10:DNSResolve1:6(3:dns1:2)))"
+      ∷ "(1:91:1(7:HTTPReq(7:request1:2)3:GET1:61:7()((6:Cookie()))()))"
+      ∷ "()"
+      ∷ "(1:21:1(10:DNSResolve1:5(3:dns1:3)))"
+      ∷ "(1:91:1(7:HTTPReq(7:request1:3)3:GET1:51:9()((6:Cookie((1:31:1))))()))"
+      ∷ [];
+}
+
 abbrev pub answering : List Run
 answering =
-    referrer-policy-origin
+    cookies-by-host
+    ∷ referrer-policy-origin
     ∷ reload-keeps-referrer-without-policy
     ∷ urlbar-fragment-stands-before-parameters
     ∷ redirect-303-post-becomes-get
