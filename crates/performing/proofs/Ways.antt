@@ -1,0 +1,31 @@
+-- The three ways in which a step's code ends: the program refuses (3, 4), the fresh numbers are not those (5), or they are, and 6 is left.
+use mathlib.Core.Path.{_≡_, refl, sym, _∙_, ap, subst}
+use mathlib.Core.Bool.{true, false}
+use Rattle.types.specs.declared.browser.Browser.{Browser as State}
+use Rattle.types.specs.declared.labels.Fresh.{Fresh}
+use Rattle.types.specs.declared.labels.Wants.{Wants}
+use Rattle.types.specs.declared.refusals.Performed.{Performed}
+use Rattle.types.specs.declared.refusals.Refusal.{Refusal}
+use Rattle.types.specs.declared.refusals.Refusal.the-variants.{NotFresh}
+use Rattle.wim.specs.Program.{Program, Outcome, refused, run}
+use Rattle.wim.specs.Step.{declined, freshLabels, fitted, admit, concluded}
+use Rattle.wim.specs.View.{rowsOf}
+use Rattle.fresh.specs.Wanted.{kinds, picked, ready}
+use Rattle.fresh.proofs.Bringing.{Brings}
+use Rattle.fresh.proofs.Exact.{unready, readied}
+use Rattle.draft.specs.Gives.{Answers}
+use Rattle.performing.specs.Performs.{Performs}
+
+module _ (p : Program) (b : State) (f : Fresh) (r : Performed) where
+  pub refuses : (why : Refusal) → run p (rowsOf b) (freshLabels f) ≡ refused why → Answers b (declined why) r → Performs p b f r
+  refuses why e a = record { answers = subst (λ (o : Outcome). Answers b (concluded false (admit (freshLabels f) (rowsOf b) o)) r) (sym e) a }
+
+  pub stales : (w : Wants) → Brings (kinds (picked w f)) p → ready w f (rowsOf b) ≡ false → Answers b (declined NotFresh) r → Performs p b f r
+  stales w k e a = record { answers = subst (λ (o : Outcome). Answers b (concluded false o) r) (sym (unready p w f (rowsOf b) k e)) a }
+
+  pub goes-on : (w : Wants) → ready w f (rowsOf b) ≡ true → Answers b (concluded false (fitted (run p (rowsOf b) (picked w f)))) r → Performs p b f r
+  goes-on w e a = record { answers = subst (λ (o : Outcome). Answers b (concluded false o) r) (sym (readied p w f (rowsOf b) e)) a }
+
+-- a program that begins with another's answer known
+pub performs-as : (p q : Program) (b : State) (f : Fresh) (r : Performed) → run p (rowsOf b) (freshLabels f) ≡ run q (rowsOf b) (freshLabels f) → Performs q b f r → Performs p b f r
+performs-as p q b f r e a = record { answers = subst (λ (o : Outcome). Answers b (concluded false (admit (freshLabels f) (rowsOf b) o)) r) (sym e) (a .answers) }

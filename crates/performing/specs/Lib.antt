@@ -1,0 +1,2 @@
+-- What a step's code owes to its program.
+pub mod Performs

@@ -1,0 +1,2 @@
+-- What HTTP_SEND makes of a draft.
+pub mod Sends
