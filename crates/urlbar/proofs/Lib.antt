@@ -1,0 +1,2 @@
+-- The ways through urlbar.
+pub mod Ways
