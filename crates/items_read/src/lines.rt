@@ -1,22 +1,8 @@
 // The lines of the input.
-ghost use Rattle.items_read.specs.Sought.{Sought};
 use crate::telling::tell_reading;
 use libc::STDOUT_FILENO;
 use reading::read_item;
-
-// The first place from `at` on where the byte b stands, or the end.
-fn find(s: &[u8], at: usize, b: u8) -> usize
-    ensures { λ r. ⌜ Sought (now (s .entry)) at r ⌝ }
-{
-    let mut i = at;
-    while i < s.len() {
-        if s[i] == b {
-            return i;
-        }
-        i += 1;
-    }
-    i
-}
+use seeking::find;
 
 fn one_line(line: &[u8]) {
     let e = find(line, 0, b' ');

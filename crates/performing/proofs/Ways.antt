@@ -1,6 +1,6 @@
 -- The three ways in which a step's code ends: the program refuses (3, 4), the fresh numbers are not those (5), or they are, and 6 is left.
 use mathlib.Core.Path.{_≡_, refl, sym, _∙_, ap, subst}
-use mathlib.Core.Bool.{true, false}
+use mathlib.Core.Bool.{Bool, true, false}
 use Rattle.types.specs.declared.browser.Browser.{Browser as State}
 use Rattle.types.specs.declared.labels.Fresh.{Fresh}
 use Rattle.types.specs.declared.labels.Wants.{Wants}
@@ -14,18 +14,18 @@ use Rattle.fresh.specs.Wanted.{kinds, picked, ready}
 use Rattle.fresh.proofs.Bringing.{Brings}
 use Rattle.fresh.proofs.Exact.{unready, readied}
 use Rattle.draft.specs.Gives.{Answers}
-use Rattle.performing.specs.Performs.{Performs}
+use Rattle.performing.specs.Performs.{Performing}
 
-module _ (p : Program) (b : State) (f : Fresh) (r : Performed) where
-  pub refuses : (why : Refusal) → run p (rowsOf b) (freshLabels f) ≡ refused why → Answers b (declined why) r → Performs p b f r
-  refuses why e a = record { answers = subst (λ (o : Outcome). Answers b (concluded false (admit (freshLabels f) (rowsOf b) o)) r) (sym e) a }
+module _ {shut : Bool} (p : Program) (b : State) (f : Fresh) (r : Performed) where
+  pub refuses : (why : Refusal) → run p (rowsOf b) (freshLabels f) ≡ refused why → Answers b (declined why) r → Performing shut p b f r
+  refuses why e a = record { answers = subst (λ (o : Outcome). Answers b (concluded shut (admit (freshLabels f) (rowsOf b) o)) r) (sym e) a }
 
-  pub stales : (w : Wants) → Brings (kinds (picked w f)) p → ready w f (rowsOf b) ≡ false → Answers b (declined NotFresh) r → Performs p b f r
-  stales w k e a = record { answers = subst (λ (o : Outcome). Answers b (concluded false o) r) (sym (unready p w f (rowsOf b) k e)) a }
+  pub stales : (w : Wants) → Brings (kinds (picked w f)) p → ready w f (rowsOf b) ≡ false → Answers b (declined NotFresh) r → Performing shut p b f r
+  stales w k e a = record { answers = subst (λ (o : Outcome). Answers b (concluded shut o) r) (sym (unready p w f (rowsOf b) k e)) a }
 
-  pub goes-on : (w : Wants) → ready w f (rowsOf b) ≡ true → Answers b (concluded false (fitted (run p (rowsOf b) (picked w f)))) r → Performs p b f r
-  goes-on w e a = record { answers = subst (λ (o : Outcome). Answers b (concluded false o) r) (sym (readied p w f (rowsOf b) e)) a }
+  pub goes-on : (w : Wants) → ready w f (rowsOf b) ≡ true → Answers b (concluded shut (fitted (run p (rowsOf b) (picked w f)))) r → Performing shut p b f r
+  goes-on w e a = record { answers = subst (λ (o : Outcome). Answers b (concluded shut o) r) (sym (readied p w f (rowsOf b) e)) a }
 
 -- a program that begins with another's answer known
-pub performs-as : (p q : Program) (b : State) (f : Fresh) (r : Performed) → run p (rowsOf b) (freshLabels f) ≡ run q (rowsOf b) (freshLabels f) → Performs q b f r → Performs p b f r
-performs-as p q b f r e a = record { answers = subst (λ (o : Outcome). Answers b (concluded false (admit (freshLabels f) (rowsOf b) o)) r) (sym e) (a .answers) }
+pub performs-as : {shut : Bool} (p q : Program) (b : State) (f : Fresh) (r : Performed) → run p (rowsOf b) (freshLabels f) ≡ run q (rowsOf b) (freshLabels f) → Performing shut q b f r → Performing shut p b f r
+performs-as {shut} p q b f r e a = record { answers = subst (λ (o : Outcome). Answers b (concluded shut (admit (freshLabels f) (rowsOf b) o)) r) (sym e) (a .answers) }

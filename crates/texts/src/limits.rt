@@ -1,26 +1,9 @@
-// Both limits of an item, on either side: 16 levels of lists, and 16,384 bytes (01).
+// The limit of an item's bytes, on either side: 16,384 (01). That of its levels stands in the input.
 use crate::say;
 use crate::wholes::whole;
 use csexp::ITEM_BYTES;
 use csexp::ITEM_LEVELS;
 use csexp::ends_at;
-
-pub fn levels() {
-    whole(b"16 levels", b"((((((((((((((((1:x))))))))))))))))");
-    whole(
-        b"16 levels, the last with nothing in it",
-        b"(((((((((((((((())))))))))))))))",
-    );
-    whole(b"17 levels", b"(((((((((((((((((1:x)))))))))))))))))");
-    whole(
-        b"17 levels, the last with nothing in it",
-        b"((((((((((((((((()))))))))))))))))",
-    );
-    whole(
-        b"17 levels behind an atom",
-        b"(1:a(((((((((((((((()))))))))))))))))",
-    );
-}
 
 // An atom whose length takes five digits and a colon.
 fn atom_of(digits: [u8; 5]) -> [u8; 16390] {

@@ -7,12 +7,10 @@ mod wholes; // texts that are one canonical term, and texts that are not
 mod written; // terms written into a buffer, and read back
 
 fn main() {
-    wholes::terms();
-    wholes::lengths();
-    wholes::lists();
-    wholes::other_forms();
-    wholes::blanks();
-    limits::levels();
+    let mut buffer = io::large_buffer();
+    let n = io::read_full(0, &mut buffer);
+    wholes::each_line(&buffer[..n]);
+    wholes::breaks();
     limits::sizes();
     firsts::positions();
     firsts::limits();

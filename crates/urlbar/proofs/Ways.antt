@@ -1,32 +1,36 @@
 -- The ways through urlbar, on any tables and fresh numbers. No code stands here.
 use mathlib.Core.Path.{_≡_, refl, sym, _∙_, ap}
-use mathlib.Core.Bool.{true, false}
+use mathlib.Core.Bool.{Bool, true, false}
 use mathlib.Core.List.{List, [], _∷_}
+use mathlib.Core.Option.{Option, none, some}
 use Rattle.types.specs.declared.addresses.Url.{Url}
-use Rattle.types.specs.declared.commands.Target.the-variants.{NewWindow}
+use Rattle.types.specs.declared.commands.Target.the-variants.{NewWindow, Existing}
 use Rattle.types.specs.declared.labels.Fresh.{Fresh}
 use Rattle.types.specs.declared.labels.Wants.{Wants}
+use Rattle.types.specs.declared.labels.WindowNumber.{WindowNumber}
+use Rattle.types.specs.declared.refusals.Missing.the-variants.{NoWindow, NoDocument}
+use Rattle.types.specs.declared.refusals.Refusal.the-variants.{Lacking}
 use Rattle.types.specs.declared.requests.Reference.the-variants.{Req}
 use Rattle.types.specs.declared.requests.Referrer.the-variants.{Unknown}
 use Rattle.types.specs.declared.requests.Sending.{Sending}
+use Rattle.types.specs.declared.rows.Document.{Document}
 use Rattle.types.specs.declared.rows.Opener.the-variants.{Nobody}
 use Rattle.types.specs.declared.rows.Window.{Window}
 use Rattle.sorted.specs.Table.{put}
-use Rattle.tables.specs.Tables.{windows, Tables, apply}
-use Rattle.tables.specs.Labels.{window, request, dns}
-use Rattle.wim.specs.Program.{Outcome, run}
+use Rattle.tables.specs.Tables.{windows, documents, Tables, apply}
+use Rattle.tables.specs.Labels.{Label, request, dns}
+use Rattle.wim.specs.Walks.{windowNumbered, activeDocument}
+use Rattle.wim.specs.Program.{Program, ask, answer, active, isTop, needs, refuseUnless, Outcome, refused, run}
 use Rattle.wim.specs.Sending.{send}
 use Rattle.wim.specs.Script.{newTopWindow}
 use Rattle.wim.specs.Main.{sendingTo, urlbar}
 use Rattle.fresh.specs.Wanted.{kinds, picked}
 use Rattle.fresh.proofs.Bringing.{Brings}
+use Rattle.visiting.proofs.Wanted.{wantsSend, brings-send}
 
+-- INTO A NEW WINDOW.
 abbrev pub wantsOpen : Wants
 wantsOpen = record { window = true; request = true; dns = true; key = false; document = false }
-
-pub brings-send : (o : Sending) → Brings (request ∷ (dns ∷ [])) (send o)
-unfolding send
-brings-send o = λ sts chosen. (refl, λ q. (refl, λ n. tt))
 
 pub brings-new : (url : Url) (f : Fresh) → Brings (kinds (picked wantsOpen f)) (urlbar url NewWindow)
 unfolding urlbar
@@ -44,3 +48,28 @@ new-sends url f b row o r s =
     ap (λ (x : Window). run (send o) (apply windows (put x ∷ []) b) ((request, f .request .0) ∷ ((dns, f .dns .0) ∷ []))) r
     ∙ ap (λ (y : Sending). run (send y) (apply windows (put (newTopWindow (f .window) Nobody) ∷ []) b) ((request, f .request .0) ∷ ((dns, f .dns .0) ∷ []))) s
     ∙ sym (ran-new url f b)
+
+-- INTO A TOP-LEVEL WINDOW THAT IS THERE, and shows something.
+pub load-sends : (url : Url) (w : WindowNumber) (f : Fresh) (b : Tables) (o : Sending) → o ≡ sendingTo (Req w) url Unknown
+    → run (send o) b ((request, f .request .0) ∷ ((dns, f .dns .0) ∷ [])) ≡ run (send (sendingTo (Req w) url Unknown)) b (picked wantsSend f)
+load-sends url w f b o s = ap (λ (y : Sending). run (send y) b ((request, f .request .0) ∷ ((dns, f .dns .0) ∷ []))) s
+
+module _ (url : Url) (w : WindowNumber) (b : Tables) (f : List Label) where
+  abbrev onward : Option Document → Program
+  onward shown = needs NoDocument shown (λ d. send (sendingTo (Req w) url Unknown))
+
+  -- what comes of the two looks
+  abbrev pub existing : Bool → Option Document → Outcome
+  existing false shown = refused (Lacking NoWindow)
+  existing true none = refused (Lacking NoDocument)
+  existing true (some d) = run (send (sendingTo (Req w) url Unknown)) b f
+
+  ran-existing : (top : Bool) (shown : Option Document) → shown ≡ activeDocument (b documents) w → run (refuseUnless top NoWindow (ask (active w) onward)) b f ≡ existing top shown
+  unfolding run answer
+  ran-existing false shown e = refl
+  ran-existing true none e = ap (λ (d : Option Document). run (onward d) b f) (sym e)
+  ran-existing true (some d) e = ap (λ (d : Option Document). run (onward d) b f) (sym e)
+
+  pub existing-runs : (top : Bool) (shown : Option Document) → top ≡ isTop (windowNumbered (b windows) w) → shown ≡ activeDocument (b documents) w → run (urlbar url (Existing w)) b f ≡ existing top shown
+  unfolding run answer urlbar
+  existing-runs top shown e g = ap (λ (x : Bool). run (refuseUnless x NoWindow (ask (active w) onward)) b f) (sym e) ∙ ran-existing top shown g

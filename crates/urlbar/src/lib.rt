@@ -1,28 +1,25 @@
-// 000 Algorithm 9, lines 13 to 29: urlbar.
+// 000 Algorithm 9, lines 13 to 29: urlbar. An address goes into a new window, or into a top-level window that shows something.
 use types::addresses::Url;
 use types::browser::Browser;
+use types::commands::Target;
 use types::labels::Fresh;
 use types::labels::Wants;
 use types::labels::WindowNumber;
+use types::refusals::Missing;
 use types::refusals::Performed;
 use types::refusals::Refusal;
-use types::requests::Data;
-use types::requests::Method;
-use types::requests::OriginHeader;
-use types::requests::Policy;
-use types::requests::Reference;
 use types::requests::Referrer;
-use types::requests::Sending;
 use types::rows::Opener;
 use types::rows::Parent;
 use types::rows::Window;
 ghost use mathlib.Core.Path.{_≡_};
-ghost use Rattle.types.specs.declared.commands.Target.the-variants.{NewWindow};
+ghost use Rattle.types.specs.declared.commands.Target.the-variants.{NewWindow, Existing};
 ghost use Rattle.types.specs.declared.requests.Reference.the-variants.{Req};
 ghost use Rattle.types.specs.declared.requests.Referrer.the-variants.{Unknown};
 ghost use Rattle.types.specs.declared.rows.Opener.the-variants.{Nobody};
 ghost use Rattle.wim.specs.Main.{sendingTo, urlbar};
 ghost use Rattle.wim.specs.Script.{newTopWindow};
+ghost use Rattle.wim.specs.Sending.{send};
 ghost use Rattle.performing.specs.Performs.{Performs};
 
 // A9:17
@@ -36,25 +33,8 @@ fn top_window(w: WindowNumber) -> Window
     }
 }
 
-// A9:28, 29
-fn sending_to(w: WindowNumber, url: Url) -> Sending
-    ensures { λ r. ⌜ r ≡ sendingTo (Req w) url Unknown ⌝ }
-{
-    let p = url.parameters;
-    Sending {
-        reference: Reference::Req(w),
-        method: Method::Get,
-        url: url,
-        parameters: p,
-        body: Data(0),
-        origin: OriginHeader::Unsent,
-        referrer: Referrer::Unknown,
-        policy: Policy::Unset,
-    }
-}
-
-// An address goes into a new window.
-pub fn urlbar_new(b: Browser, url: Url, f: Fresh) -> Performed
+// A9:16 to 18, 27 to 29
+fn urlbar_new(b: Browser, url: Url, f: Fresh) -> Performed
     ensures { λ r. ⌜ Performs (urlbar url NewWindow) b f r ⌝ }
 {
     let w = Wants {
@@ -71,8 +51,54 @@ pub fn urlbar_new(b: Browser, url: Url, f: Fresh) -> Performed
         let d = draft::begin(b);
         let row = top_window(v);
         let e = putting::put_window(d, row);
-        let o = sending_to(v, url);
+        let o = visiting::sending_to(v, url, Referrer::Unknown);
         return sending::send(b, e, o, q, n);
     }
     draft::refuse(b, Refusal::NotFresh)
+}
+
+// A9:21, 27 to 29
+fn load_into(b: Browser, url: Url, w: WindowNumber, f: Fresh) -> Performed
+    ensures { λ r. ⌜ Performs (send (sendingTo (Req w) url Unknown)) b f r ⌝ }
+{
+    let wants = Wants {
+        window: false,
+        request: true,
+        dns: true,
+        key: false,
+        document: false,
+    };
+    if fresh::ready(b, f, wants) {
+        let q = f.request;
+        let n = f.dns;
+        let d = draft::begin(b);
+        let o = visiting::sending_to(w, url, Referrer::Unknown);
+        return sending::send(b, d, o, q, n);
+    }
+    draft::refuse(b, Refusal::NotFresh)
+}
+
+// A9:20
+fn urlbar_existing(b: Browser, url: Url, w: WindowNumber, f: Fresh) -> Performed
+    ensures { λ r. ⌜ Performs (urlbar url (Existing w)) b f r ⌝ }
+{
+    let ws = b.windows;
+    let ds = b.documents;
+    if walks::is_top(ws, w) {
+        let a = walks::active_document(ds, w);
+        if a.found {
+            return load_into(b, url, w, f);
+        }
+        return draft::refuse(b, Refusal::Lacking(Missing::NoDocument));
+    }
+    draft::refuse(b, Refusal::Lacking(Missing::NoWindow))
+}
+
+pub fn urlbar(b: Browser, target: Target, url: Url, f: Fresh) -> Performed
+    ensures { λ r. ⌜ Performs (urlbar url target) b f r ⌝ }
+{
+    match target {
+        Target::NewWindow => urlbar_new(b, url, f),
+        Target::Existing(w) => urlbar_existing(b, url, w, f),
+    }
 }

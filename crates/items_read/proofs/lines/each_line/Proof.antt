@@ -3,6 +3,7 @@ use Prim.Native.Nat.{_-_}
 use native.Mathlib.Omega.{arith}
 use lib.ListN.{length}
 use borrow.Author.Needs.{needs}
+use Rattle.seeking.proofs.Places.{from, within}
 use Rattle.items_read.proofs.lines.each_line.Statement.{statement}
 use Rattle.items_read.proofs.lines.each_line.Tie as tie
 
@@ -13,19 +14,19 @@ abbrev μ-loop : tie.MeasureT-loop
 μ-loop s at₀ at = length s - at
 
 sub-one-line : tie.Need-sub-one-line Inv-loop μ-loop
-sub-one-line c = c .find .ensures .from
+sub-one-line c = from (c .find .ensures)
 
 part-one-line-start : tie.Need-part-one-line-start Inv-loop μ-loop
-part-one-line-start c = let f = c .find .ensures .within (omega arith) in omega (arith, c .find .ensures .from)
+part-one-line-start c = let f = within (c .find .ensures) (omega arith) in omega (arith, from (c .find .ensures))
 
 part-one-line-end : tie.Need-part-one-line-end Inv-loop μ-loop
-part-one-line-end c = let f = c .find .ensures .within (omega arith) in omega (arith, c .find .ensures .from)
+part-one-line-end c = let f = within (c .find .ensures) (omega arith) in omega (arith, from (c .find .ensures))
 
 add-at : tie.Need-add-at Inv-loop μ-loop
-add-at c = let f = c .before .before .find .ensures .within (omega arith) in omega arith
+add-at c = let f = within (c .before .before .find .ensures) (omega arith) in omega arith
 
 loop-less : tie.Need-loop-less Inv-loop μ-loop
-loop-less c = let f = c .before .before .find .ensures .from in omega arith
+loop-less c = let f = from (c .before .before .find .ensures) in omega arith
 
 pub each-line-spec : {M : Type 1} → statement M
 each-line-spec =

@@ -1,0 +1,2 @@
+-- The way through an encrypted answer.
+pub mod Ways

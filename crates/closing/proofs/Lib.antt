@@ -1,0 +1,2 @@
+-- The ways through CLOSECORRUPT.
+pub mod Ways

@@ -1,0 +1,2 @@
+-- What closing leaves of the tables.
+pub mod Emptied

@@ -1,0 +1,2 @@
+-- What a script hears next.
+pub mod Next

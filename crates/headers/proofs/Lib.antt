@@ -1,0 +1,2 @@
+-- The laws of headers acted upon.
+pub mod Acting

@@ -1,0 +1,2 @@
+-- What the headers of an answer do to the tables.
+pub mod Acted

@@ -1,0 +1,2 @@
+-- The way through the loading of a document.
+pub mod Ways

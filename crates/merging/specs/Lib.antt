@@ -1,0 +1,2 @@
+-- Which cookies may be set at all.
+pub mod Setting

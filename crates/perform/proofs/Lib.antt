@@ -1,0 +1,2 @@
+-- A step by its event.
+pub mod Ways

@@ -1,0 +1,2 @@
+-- What moving bytes to the front goes by.
+pub mod Moving

@@ -1,0 +1,2 @@
+-- What the window keeps.
+pub mod Keeps

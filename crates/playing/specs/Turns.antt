@@ -1,0 +1,13 @@
+-- One item was played: the browser is the one behind it, and its line was added.
+use mathlib.Core.Path.{_≡_}
+use mathlib.Core.List.{List}
+use Prim.Native.Nat.{ℕ}
+use Rattle.wim.specs.Step.{Browser, Result}
+use Rattle.wim.specs.Run.{lineOf, after}
+use Rattle.wim.specs.View.{view}
+use Rattle.playing.specs.declared.items.Turn.{Turn}
+use Rattle.playing.specs.Lines.{Adds}
+
+pub record Turns (o : Result) (b : Browser) (s : List ℕ) (at : ℕ) (s₂ : List ℕ) (r : Turn) : Type 0 where
+  pub stands : view (r .browser) ≡ after b o
+  pub adds : Adds (lineOf o) s at s₂ (r .written)

@@ -1,0 +1,46 @@
+// As many items as a portion of the input has. Where the portion is not the last one, what is left of it is to be the beginning of the next.
+ghost use Rattle.playing.specs.Plays.{Plays};
+use crate::items::play_item;
+use crate::lines::put_last;
+use crate::looking::Halt;
+use crate::looking::Next;
+use crate::looking::next_in;
+use types::browser::Browser;
+
+// The browser behind the items that were played, how many bytes they have, how many bytes their lines have, and why no more were played.
+pub struct Played {
+    pub browser: Browser,
+    pub read: usize,
+    pub written: usize,
+    pub halt: Halt,
+}
+
+// The lines stand at the front of the buffer. `last` says that nothing follows the text.
+pub fn play(text: &[u8], last: bool, b: Browser, out: &mut [u8]) -> Played
+    ensures { λ r. ⌜ Plays (now (text .entry)) last b (now (out .entry)) r (now (out .exit)) ⌝ }
+{
+    let mut browser = b;
+    let mut read = 0;
+    let mut written = 0;
+    loop {
+        let next = next_in(&text[read..], last, out.len() - written);
+        match next {
+            Next::Item(n) => {
+                let end = read + n;
+                let turn = play_item(&text[read..end], browser, out, written);
+                browser = turn.browser;
+                written = turn.written;
+                read = end;
+            }
+            Next::Nothing(halt) => {
+                let end = put_last(out, written, halt);
+                return Played {
+                    browser,
+                    read,
+                    written: end,
+                    halt,
+                };
+            }
+        }
+    }
+}

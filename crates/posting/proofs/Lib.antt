@@ -1,0 +1,2 @@
+-- The ways through POSTMESSAGE.
+pub mod Ways

@@ -1,0 +1,101 @@
+// A message for the script of another window: 000 A7:83 to 87, POSTMESSAGE.
+use scene::Scene;
+use types::browser::Browser;
+use types::browser::Inputs;
+use types::commands::Addressee;
+use types::labels::DocumentNumber;
+use types::labels::Fresh;
+use types::labels::WindowNumber;
+use types::refusals::Missing;
+use types::refusals::Performed;
+use types::refusals::Refusal;
+use types::rows::Document;
+use types::rows::Input;
+use types::rows::News;
+ghost use mathlib.Core.Path.{_≡_};
+ghost use mathlib.Core.List.{[], _∷_};
+ghost use mathlib.Core.Option.{none};
+ghost use Prim.Native.Nat.{suc};
+ghost use lib.ListN.{take};
+ghost use Rattle.sorted.specs.Table.{put};
+ghost use Rattle.tables.specs.Tables.{inputs};
+ghost use Rattle.wim.specs.Program.{edit, done};
+ghost use Rattle.wim.specs.Script.{isFor, postMessage};
+ghost use Rattle.performing.specs.Performs.{Performs};
+ghost use Rattle.scene.specs.Stored.{first};
+ghost use Rattle.posting.specs.Inputs.{arrivedAt, inputFor};
+
+// 85
+fn is_for(to: Addressee, d: Document) -> bool
+    ensures { λ r. ⌜ r ≡ isFor to d ⌝ }
+{
+    match to {
+        Addressee::Anyone => true,
+        Addressee::Only(o) => {
+            let p = walks::origin_of(d);
+            labels::same_origin(p, o)
+        }
+    }
+}
+
+// As what a document's next input arrives.
+fn arrival(t: Inputs, n: DocumentNumber) -> u32
+    ensures { λ r. ⌜ r ≡ suc (arrivedAt n (take (t .count) (t .rows))) ⌝ }
+{
+    let own = inputs::keep(t, inputs::Which::OfDocument(n));
+    let before = inputs::size(own);
+    before as u32 + 1
+}
+
+// 86
+fn input_for(t: Inputs, s: Scene, message: u32, d: Document) -> Input
+    ensures { λ r. ⌜ r ≡ inputFor s message d (take (t .count) (t .rows)) ⌝ }
+{
+    let w = s.window;
+    let own = s.document;
+    let o = walks::origin_of(own);
+    let n = d.number;
+    let k = arrival(t, n);
+    Input {
+        document: n,
+        arrival: k,
+        news: News::Posted(w, o, message),
+    }
+}
+
+fn delivered(b: Browser, s: Scene, row: Input, f: Fresh) -> Performed
+    ensures { λ r. ⌜ Performs (first s (edit inputs (put row ∷ []) (done none))) b f r ⌝ }
+{
+    let d = draft::begin(b);
+    let e = scene::store(d, s);
+    let g = putting::put_input(e, row);
+    silent::end(b, g, f)
+}
+
+// To the active document of a window that is reached, if the message is for its origin; else nobody hears of it.
+pub fn post_message(
+    b: Browser,
+    s: Scene,
+    x: WindowNumber,
+    message: u32,
+    to: Addressee,
+    f: Fresh,
+) -> Performed
+    ensures { λ r. ⌜ Performs (postMessage (s .window) (s .document) (first s) x message to) b f r ⌝ }
+{
+    let ws = b.windows;
+    let ds = b.documents;
+    let top = walks::reached(ws, ds, x);
+    if top.found {
+        let target = walks::active_document(ds, x);
+        let e = target.row;
+        let meant = is_for(to, e);
+        if sorted::both(target.found, meant) {
+            let t = b.inputs;
+            let row = input_for(t, s, message, e);
+            return delivered(b, s, row, f);
+        }
+        return script_words::nothing(b, s, f);
+    }
+    draft::refuse(b, Refusal::Lacking(Missing::NoWindow))
+}

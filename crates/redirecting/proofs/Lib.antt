@@ -1,0 +1,2 @@
+-- The way through a redirect.
+pub mod Ways

@@ -1,0 +1,203 @@
+// 000 A8:7 to 27: a window's request is sent on to where its answer points.
+use types::addresses::Fragment;
+use types::addresses::Origin;
+use types::addresses::Url;
+use types::answers::Answer;
+use types::answers::Status;
+use types::browser::Browser;
+use types::cookies::SetCookies;
+use types::labels::Fresh;
+use types::labels::Wants;
+use types::refusals::Performed;
+use types::refusals::Refusal;
+use types::requests::Data;
+use types::requests::Method;
+use types::requests::OriginHeader;
+use types::requests::Sending;
+use types::rows::Waiting;
+ghost use mathlib.Core.Path.{_≡_};
+ghost use mathlib.Core.Bool.{cond};
+ghost use lib.ListN.{take};
+ghost use Rattle.types.specs.declared.requests.Method.the-variants.{Get};
+ghost use Rattle.types.specs.declared.requests.OriginHeader.the-variants.{Null, From};
+ghost use Rattle.wim.specs.Script.{noData, isGetOrHead, urlOrigin};
+ghost use Rattle.wim.specs.Sending.{send};
+ghost use Rattle.wim.specs.Response.{actOnHeaders, inheriting, withFragmentOf, askedOrigin, originAfter, turnsToGet, redirection};
+ghost use Rattle.performing.specs.Performs.{Performs};
+
+// A8:13, 14
+fn inheriting(old: Fragment, new: Fragment) -> Fragment
+    ensures { λ r. ⌜ r ≡ inheriting old new ⌝ }
+{
+    match new {
+        Fragment::Absent => old,
+        Fragment::Named(_) => new,
+    }
+}
+
+fn with_fragment_of(old: Url, u: Url) -> Url
+    ensures { λ r. ⌜ r ≡ withFragmentOf old u ⌝ }
+{
+    let p = u.protocol;
+    let h = u.host;
+    let path = u.path;
+    let ps = u.parameters;
+    let had = old.fragment;
+    let has = u.fragment;
+    let fragment = inheriting(had, has);
+    Url {
+        protocol: p,
+        host: h,
+        path: path,
+        parameters: ps,
+        fragment: fragment,
+    }
+}
+
+fn url_origin(u: Url) -> Origin
+    ensures { λ r. ⌜ r ≡ urlOrigin u ⌝ }
+{
+    let h = u.host;
+    let p = u.protocol;
+    Origin {
+        host: h,
+        protocol: p,
+    }
+}
+
+fn asked_origin(w: Waiting) -> Origin
+    ensures { λ r. ⌜ r ≡ askedOrigin w ⌝ }
+{
+    let q = w.request;
+    let h = q.host;
+    let u = w.url;
+    let p = u.protocol;
+    Origin {
+        host: h,
+        protocol: p,
+    }
+}
+
+fn kept_if(agrees: bool, o: Origin) -> OriginHeader
+    ensures { λ r. ⌜ r ≡ cond agrees (From o) Null ⌝ }
+{
+    if agrees {
+        return OriginHeader::From(o);
+    }
+    OriginHeader::Null
+}
+
+// A8:17 to 20, of a request with an Origin
+fn origin_kept(u: Url, w: Waiting, o: Origin) -> OriginHeader
+    ensures { λ r. ⌜ r ≡ originAfter u w (From o) ⌝ }
+{
+    let next = url_origin(u);
+    let asked = asked_origin(w);
+    let stays = labels::same_origin(next, asked);
+    let own = labels::same_origin(asked, o);
+    kept_if(sorted::either(stays, own), o)
+}
+
+fn origin_after(u: Url, w: Waiting, o: OriginHeader) -> OriginHeader
+    ensures { λ r. ⌜ r ≡ originAfter u w o ⌝ }
+{
+    match o {
+        OriginHeader::Unsent => OriginHeader::Null,
+        OriginHeader::Null => OriginHeader::Null,
+        OriginHeader::From(x) => origin_kept(u, w, x),
+    }
+}
+
+fn is_get_or_head(m: Method) -> bool
+    ensures { λ r. ⌜ r ≡ isGetOrHead m ⌝ }
+{
+    match m {
+        Method::Get => true,
+        Method::Head => true,
+        Method::Post => false,
+        Method::Put => false,
+        Method::Delete => false,
+        Method::Connect => false,
+        Method::Options => false,
+        Method::Trace => false,
+    }
+}
+
+// A8:21 to 23
+fn turns_to_get(s: Status, m: Method) -> bool
+    ensures { λ r. ⌜ r ≡ turnsToGet s m ⌝ }
+{
+    let reads = is_get_or_head(m);
+    sorted::both(s.0 == 303, sorted::not(reads))
+}
+
+fn method_after(turns: bool, m: Method) -> Method
+    ensures { λ r. ⌜ r ≡ cond turns Get m ⌝ }
+{
+    if turns {
+        return Method::Get;
+    }
+    m
+}
+
+fn body_after(turns: bool, body: Data) -> Data
+    ensures { λ r. ⌜ r ≡ cond turns noData body ⌝ }
+{
+    if turns {
+        return Data(0);
+    }
+    body
+}
+
+// A8:7 to 10, 15 to 26
+fn redirection(u: Url, w: Waiting, a: Answer) -> Sending
+    ensures { λ r. ⌜ r ≡ redirection u w a ⌝ }
+{
+    let q = w.request;
+    let reference = w.reference;
+    let ps = u.parameters;
+    let sent = q.origin;
+    let referrer = q.referrer;
+    let policy = a.policy;
+    let m = q.method;
+    let data = q.body;
+    let s = a.status;
+    let turns = turns_to_get(s, m);
+    let method = method_after(turns, m);
+    let body = body_after(turns, data);
+    let origin = origin_after(u, w, sent);
+    Sending {
+        reference: reference,
+        method: method,
+        url: u,
+        parameters: ps,
+        body: body,
+        origin: origin,
+        referrer: referrer,
+        policy: policy,
+    }
+}
+
+// The answer to a window's request points to u.
+pub fn redirect(b: Browser, w: Waiting, a: Answer, few: SetCookies, u: Url, f: Fresh) -> Performed
+    ensures { λ r. ⌜ Performs (actOnHeaders w a (take (few .count) (few .rows)) (send (redirection (withFragmentOf (w .url) u) w a))) b f r ⌝ }
+{
+    let wants = Wants {
+        window: false,
+        request: true,
+        dns: true,
+        key: false,
+        document: false,
+    };
+    if fresh::ready(b, f, wants) {
+        let q = f.request;
+        let n = f.dns;
+        let old = w.url;
+        let to = with_fragment_of(old, u);
+        let o = redirection(to, w, a);
+        let d = draft::begin(b);
+        let e = headers::act_on_headers(d, w, a, few);
+        return sending::send(b, e, o, q, n);
+    }
+    draft::refuse(b, Refusal::NotFresh)
+}

@@ -1,0 +1,2 @@
+-- The ways through reload.
+pub mod Ways

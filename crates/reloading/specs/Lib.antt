@@ -1,0 +1,2 @@
+-- What reload does once it has seen the document.
+pub mod Again

@@ -1,0 +1,2 @@
+-- The ways through a DNS answer.
+pub mod Ways

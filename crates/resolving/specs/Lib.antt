@@ -1,0 +1,2 @@
+-- What a request that goes out leaves in the tables.
+pub mod Waits

@@ -1,0 +1,2 @@
+-- What is stored first.
+pub mod Running

@@ -1,0 +1,2 @@
+-- What every script step stores.
+pub mod Stored

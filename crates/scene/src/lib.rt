@@ -1,0 +1,39 @@
+// What a script's step stands on (000 Algorithm 7), and what it stores whatever its command is.
+use types::browser::Draft;
+use types::cookies::SetCookies;
+use types::items::Output;
+use types::labels::WindowNumber;
+use types::rows::Document;
+ghost use mathlib.Core.List.{[], _∷_};
+ghost use Rattle.tables.specs.Tables.{cookies, localStorage, sessionStorage};
+ghost use Rattle.draft.specs.Holds.{Carries};
+ghost use Rattle.scene.specs.Stored.{stored};
+
+// The window that a script runs in, its active document, the top-level window above; the cookies that CookieMerge leaves, and the script's output.
+pub struct Scene {
+    pub window: WindowNumber,
+    pub document: Document,
+    pub top: WindowNumber,
+    pub merged: SetCookies,
+    pub output: Output,
+}
+
+// A7:11 to 14
+pub fn store(d: Draft, s: Scene) -> Draft
+    ensures { λ r. ⌜ Carries (stored s) (sessionStorage ∷ localStorage ∷ cookies ∷ []) (localStorage ∷ sessionStorage ∷ []) d r ⌝ }
+{
+    let own = s.document;
+    let n = own.number;
+    let o = walks::origin_of(own);
+    let h = o.host;
+    let few = s.merged;
+    let top = s.top;
+    let out = s.output;
+    let local = out.local;
+    let session = out.session;
+    let state = out.state;
+    let e = putting::put_cookies(d, h, few);
+    let f = putting::store_local(e, o, local);
+    let g = putting::store_session(f, o, top, session);
+    dropping::revise(g, documents::Change::SetState(n, state))
+}

@@ -1,0 +1,2 @@
+-- The ways through IFRAME.
+pub mod Ways

@@ -1,0 +1,2 @@
+-- What IFRAME hangs, and where.
+pub mod Frame

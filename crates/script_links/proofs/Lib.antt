@@ -1,0 +1,2 @@
+-- The ways through HREF and FORM.
+pub mod Ways

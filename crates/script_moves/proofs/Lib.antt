@@ -1,0 +1,3 @@
+-- The ways through BACK, FORWARD and CLOSE.
+pub mod Front
+pub mod Ways

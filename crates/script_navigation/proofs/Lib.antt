@@ -1,0 +1,2 @@
+-- The ways of a page into a window.
+pub mod Ways

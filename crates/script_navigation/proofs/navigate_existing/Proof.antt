@@ -1,0 +1,30 @@
+-- What every script step stores, CANCELNAV, and HTTP_SEND goes on from there; or 5.
+use mathlib.Core.Path.{refl, sym, _∙_}
+use mathlib.Core.List.{[], _∷_}
+use Rattle.tables.specs.Tables.{cookies, localStorage, sessionStorage}
+use Rattle.wim.specs.View.{rowsOf}
+use Rattle.scene.specs.Stored.{first, stored}
+use Rattle.performing.proofs.Ways.{stales}
+use Rattle.script_sendings.proofs.Ways.{wantsSend, sends-on}
+use Rattle.script_navigation.specs.Navigation.{intoExisting}
+use Rattle.script_navigation.proofs.Ways.{brings-existing, existing-sends, cleared}
+use Rattle.script_navigation.proofs.navigate_existing.Statement.{statement}
+use Rattle.script_navigation.proofs.navigate_existing.Tie as tie
+
+returns : tie.Need-returns
+returns c =
+    let a = c .before .before .before .before .before .before .before .before .args in
+    sends-on (intoExisting (first (a .s)) (a .v) (a .o)) (a .b) (a .f) _ wantsSend (a .o) _ (sessionStorage ∷ localStorage ∷ cookies ∷ []) (cleared (a .s) (a .v) (rowsOf (a .b)))
+    (sym (c .before .before .before .before .before .before .before .ready .ensures) ∙ c .before .before .before .before .before .before .if1 .taken)
+    (existing-sends (a .s) (a .v) (a .o) (a .f) (rowsOf (a .b)))
+    (c .before .cancel .ensures .carry (sessionStorage ∷ localStorage ∷ cookies ∷ []) (stored (a .s) (rowsOf (a .b))) refl
+    (c .before .before .store .ensures .carry [] (rowsOf (a .b)) refl (c .before .before .before .begin .ensures)))
+    (c .send .ensures)
+
+returns-2 : tie.Need-returns-2
+returns-2 c =
+    let a = c .before .before .before .args in
+    stales (intoExisting (first (a .s)) (a .v) (a .o)) (a .b) (a .f) _ wantsSend (brings-existing (a .s) (a .v) (a .o) (a .f)) (sym (c .before .before .ready .ensures) ∙ c .before .if1 .left) (c .refuse .ensures)
+
+pub navigate-existing-spec : {M : Type 1} → statement M
+navigate-existing-spec = tie.close (tie.spec (λ c κs. tt) (λ c κs. tt) (λ c κs. tt) (λ c κs. tt) (λ c κs. tt) returns (λ c κs. tt) returns-2)

@@ -1,0 +1,2 @@
+-- What HREF and FORM share.
+pub mod Navigation

@@ -1,0 +1,2 @@
+-- How a step ends in HTTP_SEND.
+pub mod Ways

@@ -1,0 +1,2 @@
+-- The ways through XMLHTTPREQUEST.
+pub mod Ways

@@ -1,0 +1,2 @@
+-- The ways through RUNSCRIPT.
+pub mod Ways

@@ -1,0 +1,2 @@
+-- Bytes sought one by one.
+pub mod Places

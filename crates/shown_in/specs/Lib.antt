@@ -1,0 +1,2 @@
+-- What is shown in a window.
+pub mod Shown

@@ -1,0 +1,2 @@
+-- The ways through forward and back.
+pub mod Ways

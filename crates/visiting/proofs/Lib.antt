@@ -1,0 +1,2 @@
+-- The numbers that HTTP_SEND takes.
+pub mod Wanted

@@ -1,0 +1,2 @@
+-- The ways through the answer to an XHR.
+pub mod Ways

@@ -1,0 +1,2 @@
+-- Where an answer points.
+pub mod Toward
