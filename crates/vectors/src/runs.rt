@@ -4,18 +4,18 @@ use playing::play;
 use rehearsal::empty;
 use seeking::find;
 
-fn play_run(text: &[u8]) {
-    let mut lines = io::large_buffer();
+fn play_run(text: &[u8], lines: &mut [u8]) {
     let b = empty();
-    let played = play(text, true, b, &mut lines);
+    let played = play(text, true, b, lines);
     let written = played.written;
     io::write_all(STDOUT_FILENO, &lines[..written]);
 }
 
 fn play_file(fd: i32) {
     let mut text = io::large_buffer();
+    let mut lines = io::large_buffer();
     let n = io::read_full(fd, &mut text);
-    play_run(&text[..n]);
+    play_run(&text[..n], &mut lines);
 }
 
 fn one_name(name: &[u8]) {
