@@ -17,7 +17,7 @@ BYTES = b"()0123456789:\n"
 
 
 def mutated(text, dice):
-    text = bytearray(text[: dice.randrange(200, 6000)])
+    text = bytearray(text[: dice.randrange(100, 1500)])
     for _ in range(dice.randrange(0, 4)):
         at = dice.randrange(len(text)) if text else 0
         kind = dice.randrange(5)
@@ -66,4 +66,5 @@ def main(runs, seed):
     return bad != 0
 
 
-sys.exit(main(int(sys.argv[1]), int(sys.argv[2]) if len(sys.argv) > 2 else 1))
+if __name__ == "__main__":
+    sys.exit(main(int(sys.argv[1]), int(sys.argv[2]) if len(sys.argv) > 2 else 1))
