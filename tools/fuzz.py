@@ -17,7 +17,7 @@ BYTES = b"()0123456789:\n"
 
 
 def mutated(text, dice):
-    text = bytearray(text[: dice.randrange(100, 1500)])
+    text = bytearray(text[: dice.randrange(40, 800)])
     for _ in range(dice.randrange(0, 4)):
         at = dice.randrange(len(text)) if text else 0
         kind = dice.randrange(5)
