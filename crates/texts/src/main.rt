@@ -1,7 +1,7 @@
 // Worked texts, run through the public functions of csexp and csexp_write: a line for each, its name and the answer (crates/texts/stdout).
 mod atoms; // atoms, numbers, words, small lists
 mod firsts; // terms one behind another
-mod limits; // both limits of an item, on either side
+mod limits; // the limit of an item's bytes, on either side
 mod say; // a line of output
 mod wholes; // texts that are one canonical term, and texts that are not
 mod written; // terms written into a buffer, and read back

@@ -22,7 +22,8 @@ pub struct Pair {
     pub value: CookieValue,
 }
 
-// The cookies of one answer or of one script step. Those past the count are blank, so that two equal lists are equal values.
+// The cookies of one answer or of one script step. In an item those past the count are blank, so that two equal lists are equal values; of what is merged only
+// the first `count` say something.
 pub struct SetCookies {
     pub rows: [Cookie; 4],
     pub count: usize,
