@@ -8,7 +8,7 @@ where none is given). For each table the folder CRATE is written:
 
     src/lib.rt               Which, Found, Offer; empty, size, first, keep, put; the functions of the description
     specs/Lib.antt Which.antt    what the tests of Which mean, and what else the contracts cite
-    must-fail/               the edits that the description names
+    must-fail/more/          the edits that the description names
     proofs/F/Proof.antt      one for each function that Rattle does not prove by itself
 
 What is written is committed and read like any other code; it is written anew when a description changes. A folder of
@@ -30,8 +30,7 @@ A table in the code is a struct { rows: [Row; CAPACITY], count: usize }. A descr
     uses        further types of the code, as paths. Of these, and of `cites`, only names that occur are written
     cites       {module: names}: what the meanings and contracts cite
     about       the first line of src/lib.rt, without its full stop
-    refused     names of EDITS that are written to must-fail/, and further edits {name: (old, new)}: a check of a table takes
-                10 to 20 seconds, so choose few
+    refused     names of EDITS that are written to must-fail/more/ (tools/edits.py tries them), and further edits {name: (old, new)}
 
 Each proof cites one loop law of `sorted` (proofs/Seek, Open, First, Keep, Revising, Collect, Putting) or is one rewriting.
 In a proof `c^5` is written for c and five times `.before`.
@@ -870,7 +869,7 @@ def crate(table, folder):
     write(f'{root}/specs/Which.antt', fill(WHICH, words))
 
     for label, (old, new) in list((label, EDITS[label]) for label in table.refused) + list(table.edits.items()):
-        write(f'{root}/must-fail/{label}.edit', f'file: src/lib.rt\nold: {old}\nnew: {new}\n')
+        write(f'{root}/must-fail/more/{label}.edit', f'file: src/lib.rt\nold: {old}\nnew: {new}\n')
 
     # the proofs
     def prove(fn, why, before, proof, cites={}, unfolding=''):
