@@ -10,7 +10,7 @@ use Rattle.tables.specs.Tables.{Tables}
 use Rattle.wim.specs.Program.{made, run}
 use Rattle.wim.specs.Main.{closeCorrupt}
 use Rattle.fresh.specs.Wanted.{kinds, picked}
-use Rattle.fresh.proofs.Bringing.{Brings}
+use Rattle.fresh.specs.Brings.{Brings}
 use Rattle.closing.specs.Emptied.{emptied}
 
 abbrev pub wantsNone : Wants

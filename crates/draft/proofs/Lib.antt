@@ -1,3 +1,4 @@
 -- The laws of drafts.
 pub mod Carry
 pub mod Judged
+pub mod One

@@ -27,7 +27,7 @@ use Rattle.wim.specs.Main.{encryptedAnswer, plainAnswer, goOut, resolved, progr
 use Rattle.wim.specs.Local.{asked, awaited, home, topOfDocument, topOf, hosts, urlHost, redirectHost, answerHosts}
 use Rattle.wim.proofs.Walks.{reached-from, reached-top}
 use Rattle.tables.proofs.Update.{linear}
-use Rattle.either_order.proofs.Sight.{found-document}
+use Rattle.wim.proofs.Numbers.{found-document}
 use Rattle.either_order.proofs.Part.{Part, sees, own-sees, Whole}
 use Rattle.either_order.proofs.Keeps.{Keeps}
 use Rattle.either_order.proofs.Commute.{nothing}

@@ -20,7 +20,7 @@ use Rattle.wim.specs.Walks.{windowNumbered, documentNumbered, aboveDocument, ab
 use Rattle.wim.specs.Local.{topOfDocument, topOf}
 use Rattle.wim.specs.Invariant.{Numbered}
 use Rattle.tables.proofs.Update.{linear}
-use Rattle.either_order.proofs.Sight.{document-eq}
+use Rattle.wim.proofs.Numbers.{document-eq}
 use Rattle.either_order.proofs.Depth.{settled}
 
 pub data Colour : Type 0 where

@@ -21,7 +21,8 @@ use Rattle.wim.specs.Local.{asked, awaited, home, topOfDocument, topOf, names}
 use Rattle.wim.proofs.Walks.{above-row}
 use Rattle.tables.proofs.Update.{linear}
 use Rattle.numbered.proofs.Fresh.{Absent}
-use Rattle.either_order.proofs.Sight.{found-document, has-key}
+use Rattle.wim.proofs.Numbers.{found-document}
+use Rattle.either_order.proofs.Sight.{has-key}
 use Rattle.either_order.proofs.Listed.{tie-mentioned, ref-mentioned}
 use Rattle.either_order.proofs.Colour.{colourless, topColour, topOfLabel, requestColour, askedFor, keyedBy, colour, questionColour, waitingColour, colour-leads}
 use Rattle.either_order.proofs.Seeds.{sought, found, waitingNumber, questionNumber}

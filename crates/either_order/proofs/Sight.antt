@@ -21,7 +21,7 @@ use Rattle.wim.specs.Nouns.{WindowNumber, DocumentNumber, KeyNumber, Document, 
 use Rattle.wim.specs.Walks.{documentsOf, activeAmong, activeDocument, windowNumbered, documentNumbered, Above, missing, topmost, heldBy, aboveDocument, aboveParent, aboveRow, above, climb, steps, reachedFrom, isUnder, removal}
 use Rattle.wim.specs.Navigable.{mayNavigate}
 use Rattle.wim.specs.Program.{Query, reached, topLevel, active, history, navigated, ofOrigin, listening, arrived, under, strict, cookiesOf, cookiesFor, question, keyless, keyed, isTop, when, withOrigin, listens, answer}
-use Rattle.wim.proofs.Numbers.{row-numbered}
+use Rattle.wim.proofs.Numbers.{row-numbered, found-document}
 use Rattle.tables.proofs.Update.{linear}
 
 -- P is the same on all labels that a row ties together
@@ -31,15 +31,6 @@ Even P b = (t : Table) (r : Row t) → In r (b t) → (a : Label) → In a (ties
 -- the rows of the part
 abbrev pub restrict : (Label → Bool) → Tables → Tables
 restrict P b = λ t. only (keyOf t) (λ k. P (tag t k)) (b t)
-
-pub document-eq : (d e : DocumentNumber) → d .0 ≡ e .0 → d ≡ e
-document-eq d e p i = record { 0 = p i }
-
-pub found-document : (ds : List Document) (n : DocumentNumber) (d : Document) → documentNumbered ds n ≡ some d → In d ds × (d .number ≡ n)
-unfolding documentNumbered
-found-document ds n d e =
-    let z = find-in (λ (x : Document). sameDocument (x .number) n) ds d e in
-    (z .0, document-eq (d .number) n (eqb-true (d .number .0) (n .0) (z .1)))
 
 module _ (P : Label → Bool) (b : Tables) where
   -- the row with a key of the part

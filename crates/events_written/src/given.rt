@@ -1,12 +1,8 @@
 // Requests and addresses to send.
 use types::addresses::Address;
-use types::addresses::Fragment;
 use types::addresses::Host;
-use types::addresses::Origin;
 use types::addresses::Parameters;
 use types::addresses::Path;
-use types::addresses::Protocol;
-use types::addresses::Url;
 use types::cookies::CookieName;
 use types::cookies::CookieValue;
 use types::cookies::Jar;
@@ -51,44 +47,17 @@ pub fn cookies(p: Pair, count: usize) -> Jar {
     }
 }
 
-pub fn origin(protocol: Protocol) -> OriginHeader {
-    OriginHeader::From(Origin {
-        host: Host(6),
-        protocol,
-    })
-}
-
-// The page from which a request is sent.
-pub fn referrer(parameters: u32, fragment: Fragment) -> Referrer {
-    Referrer::Known(Url {
-        protocol: Protocol::Secure,
-        host: Host(6),
-        path: Path(0),
-        parameters: Parameters(parameters),
-        fragment,
-    })
-}
-
-pub fn request(method: Method, jar: Jar, origin: OriginHeader, referrer: Referrer) -> Request {
+// With a method alone, as in 01's example run.
+pub fn bare(method: Method) -> Request {
     Request {
         number: RequestNumber(31),
         method,
         host: Host(5),
         path: Path(7),
         parameters: Parameters(0),
-        cookies: jar,
-        origin,
-        referrer,
+        cookies: cookies(pair(false, 0, 0), 0),
+        origin: OriginHeader::Unsent,
+        referrer: Referrer::Unknown,
         body: Data(0),
     }
-}
-
-// With a method alone, as in 01's example run.
-pub fn bare(method: Method) -> Request {
-    request(
-        method,
-        cookies(pair(false, 0, 0), 0),
-        OriginHeader::Unsent,
-        Referrer::Unknown,
-    )
 }

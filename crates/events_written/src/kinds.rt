@@ -1,11 +1,15 @@
-// Each kind of message, each method, small numbers and large ones.
+// Each kind of message, and the largest.
 use crate::given;
 use crate::say;
 use types::addresses::Address;
+use types::addresses::Fragment;
 use types::addresses::Host;
+use types::addresses::Origin;
 use types::addresses::Parameters;
 use types::addresses::Path;
-use types::labels::DnsNumber;
+use types::addresses::Protocol;
+use types::addresses::Url;
+use types::labels::KeyNumber;
 use types::labels::RequestNumber;
 use types::requests::Data;
 use types::requests::Method;
@@ -14,15 +18,10 @@ use types::requests::Referrer;
 use types::requests::Request;
 use types::requests::Sent;
 
-// A request with a method alone, in the clear.
-fn plain(name: &[u8], method: Method) {
-    say::event(name, given::open(), given::bare(method));
-}
-
 // The two lines of 01's example run.
 pub fn example() {
     say::event(b"question", given::question(), given::bare(Method::Get));
-    plain(b"request", Method::Get);
+    say::event(b"request", given::open(), given::bare(Method::Get));
 }
 
 pub fn sealed() {
@@ -30,36 +29,35 @@ pub fn sealed() {
     say::event(b"nothing", Sent::Silence, given::bare(Method::Get));
 }
 
-pub fn methods() {
-    plain(b"HEAD", Method::Head);
-    plain(b"POST", Method::Post);
-    plain(b"PUT", Method::Put);
-    plain(b"DELETE", Method::Delete);
-    plain(b"CONNECT", Method::Connect);
-    plain(b"OPTIONS", Method::Options);
-    plain(b"TRACE", Method::Trace);
+// The largest event: 64 cookies, each name prefixed, each number as wide as it can be.
+fn largest(count: usize) -> Request {
+    let jar = given::cookies(given::pair(true, 65535, 4294967295), count);
+    Request {
+        number: RequestNumber(4294967295),
+        method: Method::Options,
+        host: Host(65535),
+        path: Path(65535),
+        parameters: Parameters(4294967295),
+        cookies: jar,
+        origin: OriginHeader::From(Origin {
+            host: Host(65535),
+            protocol: Protocol::Plain,
+        }),
+        referrer: Referrer::Known(Url {
+            protocol: Protocol::Secure,
+            host: Host(65535),
+            path: Path(65535),
+            parameters: Parameters(4294967295),
+            fragment: Fragment::Named(4294967295),
+        }),
+        body: Data(4294967295),
+    }
 }
 
-// A request all of whose numbers are n, or `small` where they are of 16 bits.
-fn numbered(name: &[u8], n: u32, small: u16) {
-    let request = Request {
-        number: RequestNumber(n),
-        method: Method::Post,
-        host: Host(small),
-        path: Path(small),
-        parameters: Parameters(n),
-        cookies: given::cookies(given::pair(false, small, n), 1),
-        origin: OriginHeader::Unsent,
-        referrer: Referrer::Unknown,
-        body: Data(n),
-    };
-    say::event(name, Sent::Open(Address(small)), request);
-}
-
-pub fn numbers() {
-    numbered(b"zeros", 0, 0);
-    numbered(b"ones", 1, 1);
-    numbered(b"largest numbers", 4294967295, 65535);
-    let question = Sent::Resolve(Host(65535), DnsNumber(4294967295));
-    say::event(b"largest question", question, given::bare(Method::Get));
+pub fn full() {
+    let sent = Sent::Sealed(Address(65535), KeyNumber(4294967295));
+    say::event(b"largest event", sent, largest(64));
+    say::length(b"length of the largest event", sent, largest(64));
+    say::length(b"a count beyond 64 is read as 64", sent, largest(65));
+    say::length(b"63 cookies", sent, largest(63));
 }

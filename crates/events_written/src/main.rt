@@ -1,20 +1,13 @@
 // Events as they go out, a line for each: its name and its bytes; and buffers as the writer leaves them (crates/events_written/stdout).
 mod given; // requests and addresses to send
-mod kinds; // each kind of message, each method
-mod headers; // each combination of headers
+mod kinds; // each kind of message, and the largest
 mod rooms; // where in a buffer an event stands
 mod say; // a line of output
 
 fn main() {
     kinds::example();
     kinds::sealed();
-    kinds::methods();
-    kinds::numbers();
-    headers::origins();
-    headers::referers();
-    headers::cookies();
-    headers::all();
-    headers::full();
+    kinds::full();
     rooms::fits();
     rooms::fails();
     rooms::silence();

@@ -9,19 +9,9 @@ use Rattle.types.specs.declared.refusals.Refusal.the-variants.{NotFresh}
 use Rattle.tables.specs.Tables.{Tables, update, apply}
 use Rattle.tables.specs.Labels.{Kind, code, Label}
 use Rattle.shapes.specs.Events.{Message}
-use Rattle.wim.specs.Program.{Answer, answer, Program, ask, edit, revise, bring, refuse, done, Outcome, refused, made, run}
+use Rattle.wim.specs.Program.{answer, Program, ask, edit, revise, bring, refuse, done, Outcome, refused, made, run}
 use Rattle.wim.specs.Step.{allFresh, fitted, admit}
-
--- whatever it is told, the program refuses nothing and brings numbers of these kinds, in this order
-abbrev pub Brings : List Kind → Program → Type 0
-Brings ks (ask q k) = (x : Answer q) → Brings ks (k x)
-Brings ks (edit t es p) = Brings ks p
-Brings ks (revise t g p) = Brings ks p
-Brings [] (bring κ k) = ⊥
-Brings (κ′ ∷ ks) (bring κ k) = (code κ ≡ code κ′) × ((n : ℕ) → Brings ks (k n))
-Brings ks (refuse r) = ⊥
-Brings [] (done m) = Unit {0}
-Brings (κ ∷ ks) (done m) = ⊥
+use Rattle.fresh.specs.Brings.{Brings}
 
 -- the fresh numbers have these kinds
 abbrev pub matches : List Kind → List Label → Bool

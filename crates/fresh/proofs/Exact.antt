@@ -15,7 +15,8 @@ use Rattle.tables.specs.Labels.{Kind, code, Label}
 use Rattle.wim.specs.Program.{Program, refused, run}
 use Rattle.wim.specs.Step.{numbers, given, freshLabels, allFresh, fitted, admit}
 use Rattle.fresh.specs.Wanted.{flags, chosen, kinds, picked, agrees, exactly, ready}
-use Rattle.fresh.proofs.Bringing.{Brings, matches, stale, admitted}
+use Rattle.fresh.specs.Brings.{Brings}
+use Rattle.fresh.proofs.Bringing.{matches, stale, admitted}
 
 -- LABELS OF RISING KINDS.
 Above : ℕ → List Label → Type 0

@@ -13,6 +13,7 @@ use Rattle.tables.specs.Tables.{Tables, windows, documents, cookies, localStora
 use Rattle.tables.specs.Labels.{host, Label, sameLabel, clean, isFresh}
 use Rattle.wim.specs.Step.{given, allFresh}
 use Rattle.tables.specs.View.{labelOf}
+use Rattle.labels.proofs.Laws.{no-host}
 use Rattle.fresh.specs.Wanted.{spare, allSpare}
 
 pub all-spare : (b : Tables) (ls : List Label) → allFresh b (given ls) ≡ allSpare b ls
@@ -23,13 +24,6 @@ all-spare b (l ∷ ls) = go (eqb (l .1) 0) (all-spare b ls)
     go : (z : Bool) → allFresh b (given ls) ≡ allSpare b ls → allFresh b (cond z (given ls) (l ∷ given ls)) ≡ (cond z true (isFresh b l) && allSpare b ls)
     go true ih = ih
     go false ih = ap (isFresh b l &&_) ih
-
-no-host : (l : Mark) (h : ℕ) → sameLabel (labelOf l) (host, h) ≡ false
-no-host (OfWindow n) h = refl
-no-host (OfRequest n) h = refl
-no-host (OfDns n) h = refl
-no-host (OfKey n) h = refl
-no-host (OfDocument n) h = refl
 
 clean-cookies : (l : Mark) (rs : List HostCookie) → clean cookies (labelOf l) rs ≡ true
 unfolding clean

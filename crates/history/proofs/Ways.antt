@@ -27,7 +27,7 @@ use Rattle.history.specs.declared.Towards.{Towards}
 use Rattle.history.specs.declared.Towards.the-variants.{Before, After}
 use Rattle.history.specs.declared.Way.{Way}
 use Rattle.history.specs.Directions.{nav, beside, places, way, leads, turn, turned}
-use Rattle.history.specs.Navigates.{Navigates}
+use Rattle.history.specs.MovesTowards.{MovesTowards}
 
 module _ (w : WindowNumber) (first : Program → Program) where
   abbrev going : Option (ℕ × ℕ) → Program
@@ -58,10 +58,10 @@ module _ (q : Towards) (w : WindowNumber) (b : State) (d : Draft) (f : Fresh) (r
       goes w first q (rowsOf b) (freshLabels f)
       ∙ ap (λ (o : Option (ℕ × ℕ)). run (going w first o) (rowsOf b) (freshLabels f)) (sym e ∙ ap (λ (y : Bool). looked y (l .from, l .to)) t)
 
-  pub nav-stops : l .found ≡ false → Answers b (declined Stopped) r → Navigates q w b d f r
+  pub nav-stops : l .found ≡ false → Answers b (declined Stopped) r → MovesTowards q w b d f r
   nav-stops t a = record { performs = λ first ts v x h k. refuses (nav q w first) b f r Stopped (seen first false t ∙ stops w first (rowsOf b) (freshLabels f)) a }
 
-  pub nav-turns : (g : Draft) → l .found ≡ true → Carries (turned w (l .from) (l .to)) [] (pendingRequests ∷ pendingDNS ∷ []) d g → Ends b g f r → Navigates q w b d f r
+  pub nav-turns : (g : Draft) → l .found ≡ true → Carries (turned w (l .from) (l .to)) [] (pendingRequests ∷ pendingDNS ∷ []) d g → Ends b g f r → MovesTowards q w b d f r
   nav-turns g t c ends = record {
     performs = λ first ts v x h k. performs-as (nav q w first) (first (turn w (l .from) (l .to))) b f r (seen first true t)
         (ends .performs (first (turn w (l .from) (l .to))) ts (turned w (l .from) (l .to) v) (x .brings (turn w (l .from) (l .to)) tt) (x .runs (turn w (l .from) (l .to)) [] ∙ ran w (l .from) (l .to) v) (c .carry ts v h k));

@@ -1,3 +1,3 @@
 -- The two directions of a history, and what going there makes of a draft.
 pub mod Directions
-pub mod Navigates
+pub mod MovesTowards

@@ -16,7 +16,7 @@ ghost use Rattle.tables.specs.Tables.{pendingDNS, pendingRequests};
 ghost use Rattle.wim.specs.Walks.{documentsOf};
 ghost use Rattle.draft.specs.Holds.{Carries};
 ghost use Rattle.history.specs.Directions.{beside, way, leads, turned};
-ghost use Rattle.history.specs.Navigates.{Navigates};
+ghost use Rattle.history.specs.MovesTowards.{MovesTowards};
 
 // NAVBACK goes to the document before, NAVFORWARD to the document after.
 pub enum Towards {
@@ -69,7 +69,7 @@ fn turn(d: Draft, w: WindowNumber, from: u32, to: u32) -> Draft
 
 // The browser b stands before the step, and d is what the step does first: a trigger nothing, a script what it stores.
 pub fn nav(b: Browser, d: Draft, w: WindowNumber, q: Towards, f: Fresh) -> Performed
-    ensures { λ r. ⌜ Navigates q w b d f r ⌝ }
+    ensures { λ r. ⌜ MovesTowards q w b d f r ⌝ }
 {
     let ds = b.documents;
     let l = look(ds, w, q);

@@ -18,7 +18,7 @@ use Rattle.wim.specs.Walks.{documentsOf}
 use Rattle.wim.specs.Program.{made, answer, run}
 use Rattle.wim.specs.Response.{newDocument, load}
 use Rattle.fresh.specs.Wanted.{kinds, picked}
-use Rattle.fresh.proofs.Bringing.{Brings}
+use Rattle.fresh.specs.Brings.{Brings}
 use Rattle.walks.specs.Told.{going}
 use Rattle.headers.specs.Acted.{acted}
 use Rattle.loading.specs.declared.Spot.{Spot}

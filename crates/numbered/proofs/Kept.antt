@@ -12,7 +12,7 @@ use Rattle.sorted.proofs.Revise.{in-map, sorted-map}
 use Rattle.tables.specs.Tables.{Table, windows, documents, cookies, localStorage, sessionStorage, inputs, pendingDNS, pendingRequests, sts, Row, keyOf, cmp, Tables, Edits, changed, update, apply}
 use Rattle.tables.specs.Labels.{request, key, document, sealLabel, leads}
 use Rattle.wim.specs.Nouns.{DocumentNumber, RequestNumber, KeyNumber, Seal, Keyed, Document, Question, Waiting}
-use Rattle.tables.proofs.Update.{update-one}
+use Rattle.tables.proofs.Update.{linear, update-one}
 use Rattle.numbered.proofs.Fresh.{Absent}
 use Rattle.numbered.proofs.Once.{Once, one-row, sorted-apply}
 
@@ -109,7 +109,7 @@ module _ {a : Tables} where
           let x = K .was documents d i in
           let y = K .was documents e j in
           let z : x .0 ≡ y .0 = K .began .documents-once (x .0) (y .0) (x .1) (y .1) (x .3 ∙ (p ∙ sym (y .3))) in
-          one-row documents (b documents) (K .sorted documents) d e i j (sym (x .2) ∙ (ap (keyOf documents) z ∙ y .2))
+          one-row (keyOf documents) (cmp documents) (linear documents) (b documents) (K .sorted documents) d e i j (sym (x .2) ∙ (ap (keyOf documents) z ∙ y .2))
 
   -- WHAT IS FRESH before the step is not yet there.
   module _ {b : Tables} (K : Kept a b) (n : ℕ) where

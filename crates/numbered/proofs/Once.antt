@@ -6,7 +6,8 @@ use mathlib.Core.Bool.{Bool, true, not}
 use mathlib.Core.List.{List, [], _∷_}
 use mathlib.Core.Option.{some}
 use Prim.Native.Nat.{ℕ}
-use Rattle.sorted.specs.Order.{same}
+use Rattle.sorted.specs.declared.Order.{Order}
+use Rattle.sorted.specs.Order.{Linear, same}
 use Rattle.sorted.specs.Table.{In, Sorted, at, put, drop}
 use Rattle.sorted.proofs.Never.{never}
 use Rattle.sorted.proofs.Linear.{same-self}
@@ -14,7 +15,7 @@ use Rattle.sorted.proofs.Member.{in-keep}
 use Rattle.sorted.proofs.Edits.{in-insert}
 use Rattle.sorted.proofs.Sorted.{sorted-acts}
 use Rattle.sorted.proofs.Lookup.{at-in}
-use Rattle.tables.specs.Tables.{Table, documents, pendingDNS, pendingRequests, Row, Key, keyOf, cmp, Tables, Edits, changed, apply}
+use Rattle.tables.specs.Tables.{Table, documents, pendingDNS, pendingRequests, Row, keyOf, cmp, Tables, Edits, changed, apply}
 use Rattle.wim.specs.Nouns.{KeyNumber, Address, Seal, Keyed, Document, Question, Waiting}
 use Rattle.wim.specs.Main.{waitingOf}
 use Rattle.tables.proofs.Update.{linear, update-one}
@@ -27,12 +28,10 @@ pub record Once (b : Tables) : Type 0 where
   pub asked-or-waiting : (q : Question) (w : Waiting) → In q (b pendingDNS) → In w (b pendingRequests) → q .request .number ≡ w .request .number → ⊥
   pub keys-once : (v w : Waiting) (k : KeyNumber) → In v (b pendingRequests) → In w (b pendingRequests) → v .seal ≡ Keyed k → w .seal ≡ Keyed k → v ≡ w
 
--- one row to a key
-pub one-row : (t : Table) (l : List (Row t)) → Sorted (keyOf t) (cmp t) l → (r s : Row t) → In r l → In s l → keyOf t r ≡ keyOf t s → r ≡ s
-one-row t l h r s i j e =
-    let x : at (keyOf t) (cmp t) (keyOf t r) l ≡ some r = at-in (keyOf t) (cmp t) (linear t) l r h i in
-    let y : at (keyOf t) (cmp t) (keyOf t s) l ≡ some s = at-in (keyOf t) (cmp t) (linear t) l s h j in
-    let z : some r ≡ some s = sym x ∙ (ap (λ (k : Key t). at (keyOf t) (cmp t) k l) e ∙ y) in
+-- rows with one key are one, in tables in order
+pub one-row : {R K : Type 0} (key : R → K) (order : K → K → Order) → Linear K order → (l : List R) → Sorted key order l → (x y : R) → In x l → In y l → key x ≡ key y → x ≡ y
+one-row {R} {K} key order O l s x y i j e =
+    let z : some x ≡ some y = sym (at-in key order O l x s i) ∙ ap (λ (k : K). at key order k l) e ∙ at-in key order O l y s j in
     cc
 
 pub sorted-apply : (t : Table) (es : Edits t) (b : Tables) → ((u : Table) → Sorted (keyOf u) (cmp u) (b u)) → (u : Table) → Sorted (keyOf u) (cmp u) (apply t es b u)

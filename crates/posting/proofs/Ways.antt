@@ -4,17 +4,19 @@ use mathlib.Core.Bool.{Bool, true, false, cond, _&&_, false≢true}
 use mathlib.Core.List.{List, [], _∷_}
 use mathlib.Core.Option.{Option, none}
 use Prim.Native.Nat.{ℕ}
+use lib.ListN.{length}
 use Rattle.types.specs.declared.commands.Addressee.{Addressee}
 use Rattle.types.specs.declared.labels.WindowNumber.{WindowNumber}
 use Rattle.types.specs.declared.refusals.Missing.the-variants.{NoWindow}
 use Rattle.types.specs.declared.refusals.Refusal.the-variants.{Lacking}
 use Rattle.types.specs.declared.rows.Document.{Document}
 use Rattle.types.specs.declared.rows.Input.{Input}
+use Rattle.types.specs.declared.rows.News.{News}
 use Rattle.types.specs.declared.rows.News.the-variants.{Posted}
-use Rattle.sorted.specs.Table.{put, looked}
+use Rattle.sorted.specs.Table.{put, keep, looked}
 use Rattle.tables.specs.Tables.{windows, documents, inputs, Tables, apply}
 use Rattle.tables.specs.Labels.{Label}
-use Rattle.tables.specs.Rows.{originOf}
+use Rattle.tables.specs.Rows.{sameDocument, originOf}
 use Rattle.tables.proofs.Update.{same-tables}
 use Rattle.wim.specs.Walks.{steps, reachedFrom, activeDocument}
 use Rattle.wim.specs.Program.{answer, ask, active, edit, done, needs, Outcome, refused, made, run}
@@ -22,7 +24,7 @@ use Rattle.wim.specs.Script.{isFor, file, deliver, postMessage}
 use Rattle.walks.proofs.Looked.{looked-yes, looked-no}
 use Rattle.scene.specs.declared.Scene.{Scene}
 use Rattle.scene.specs.Stored.{first, stored}
-use Rattle.posting.specs.Inputs.{arrivedAt, inputFor}
+use Rattle.filing.specs.Next.{nextInput}
 
 unedited : (w : Tables) → apply inputs [] w ≡ w
 unedited w = same-tables (apply inputs [] w) w refl refl refl refl refl refl refl refl refl
@@ -52,10 +54,13 @@ module _ (s : Scene) (message : ℕ) (to : Addressee) (w : Tables) (f : List Lab
   no-target x b top e t = ap (towards x) (sym (looked-no b top e t))
 
   -- 85: the message is for the active document, or not
-  abbrev files : Document → Bool → Outcome
-  files d b = run (edit inputs (cond b (file (d .number) (arrivedAt (d .number) (w inputs)) (Posted (s .window) (originOf (s .document)) message)) []) (done none)) (stored s w) f
+  abbrev news : News
+  news = Posted (s .window) (originOf (s .document)) message
 
-  pub heard : (b : Bool) (d : Document) (row : Input) → (b && isFor to d) ≡ true → row ≡ inputFor s message d (w inputs) → delivers (looked b d) ≡ run (first s (edit inputs (put row ∷ []) (done none))) w f
+  abbrev files : Document → Bool → Outcome
+  files d b = run (edit inputs (cond b (file (d .number) (length (keep (λ (i : Input). sameDocument (i .document) (d .number)) (w inputs))) news) []) (done none)) (stored s w) f
+
+  pub heard : (b : Bool) (d : Document) (row : Input) → (b && isFor to d) ≡ true → row ≡ nextInput (d .number) news (w inputs) → delivers (looked b d) ≡ run (first s (edit inputs (put row ∷ []) (done none))) w f
   unfolding run deliver answer
   heard true d row e i = ap (files d) e ∙ ap (λ (r : Input). run (first s (edit inputs (put r ∷ []) (done none))) w f) (sym i)
   heard false d row e i = absurd (false≢true e)

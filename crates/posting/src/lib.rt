@@ -3,7 +3,6 @@ use scene::Scene;
 use types::browser::Browser;
 use types::browser::Inputs;
 use types::commands::Addressee;
-use types::labels::DocumentNumber;
 use types::labels::Fresh;
 use types::labels::WindowNumber;
 use types::refusals::Missing;
@@ -15,15 +14,16 @@ use types::rows::News;
 ghost use mathlib.Core.Path.{_≡_};
 ghost use mathlib.Core.List.{[], _∷_};
 ghost use mathlib.Core.Option.{none};
-ghost use Prim.Native.Nat.{suc};
 ghost use lib.ListN.{take};
+ghost use Rattle.types.specs.declared.rows.News.the-variants.{Posted};
 ghost use Rattle.sorted.specs.Table.{put};
 ghost use Rattle.tables.specs.Tables.{inputs};
+ghost use Rattle.tables.specs.Rows.{originOf};
 ghost use Rattle.wim.specs.Program.{edit, done};
 ghost use Rattle.wim.specs.Script.{isFor, postMessage};
 ghost use Rattle.performing.specs.Performs.{Performs};
 ghost use Rattle.scene.specs.Stored.{first};
-ghost use Rattle.posting.specs.Inputs.{arrivedAt, inputFor};
+ghost use Rattle.filing.specs.Next.{nextInput};
 
 // 85
 fn is_for(to: Addressee, d: Document) -> bool
@@ -38,29 +38,15 @@ fn is_for(to: Addressee, d: Document) -> bool
     }
 }
 
-// As what a document's next input arrives.
-fn arrival(t: Inputs, n: DocumentNumber) -> u32
-    ensures { λ r. ⌜ r ≡ suc (arrivedAt n (take (t .count) (t .rows))) ⌝ }
-{
-    let own = inputs::keep(t, inputs::Which::OfDocument(n));
-    let before = inputs::size(own);
-    before as u32 + 1
-}
-
 // 86
 fn input_for(t: Inputs, s: Scene, message: u32, d: Document) -> Input
-    ensures { λ r. ⌜ r ≡ inputFor s message d (take (t .count) (t .rows)) ⌝ }
+    ensures { λ r. ⌜ r ≡ nextInput (d .number) (Posted (s .window) (originOf (s .document)) message) (take (t .count) (t .rows)) ⌝ }
 {
     let w = s.window;
     let own = s.document;
     let o = walks::origin_of(own);
     let n = d.number;
-    let k = arrival(t, n);
-    Input {
-        document: n,
-        arrival: k,
-        news: News::Posted(w, o, message),
-    }
+    filing::next_input(t, n, News::Posted(w, o, message))
 }
 
 fn delivered(b: Browser, s: Scene, row: Input, f: Fresh) -> Performed

@@ -1,38 +1,32 @@
 -- The way through a redirect, on any tables and fresh numbers. No code stands here.
-use mathlib.Core.Path.{_≡_, refl, sym, _∙_, ap}
-use mathlib.Core.Bool.{true, false}
-use mathlib.Core.List.{List, [], _∷_}
+use mathlib.Core.Path.{_≡_, sym, _∙_, ap}
+use mathlib.Core.List.{List}
 use Rattle.types.specs.declared.addresses.Url.{Url}
 use Rattle.types.specs.declared.answers.Answer.{Answer}
 use Rattle.types.specs.declared.cookies.Cookie.{Cookie}
 use Rattle.types.specs.declared.labels.Fresh.{Fresh}
-use Rattle.types.specs.declared.labels.Wants.{Wants}
 use Rattle.types.specs.declared.requests.Sending.{Sending}
 use Rattle.types.specs.declared.rows.Waiting.{Waiting}
 use Rattle.tables.specs.Tables.{Tables}
-use Rattle.tables.specs.Labels.{request, dns}
 use Rattle.wim.specs.Program.{Program, run}
 use Rattle.wim.specs.Sending.{send}
 use Rattle.wim.specs.Response.{actOnHeaders, withFragmentOf, redirection}
 use Rattle.fresh.specs.Wanted.{kinds, picked}
-use Rattle.fresh.proofs.Bringing.{Brings}
+use Rattle.fresh.specs.Brings.{Brings}
+use Rattle.performing.proofs.Wanted.{wantsSend, numbersOf, brings-send}
 use Rattle.headers.specs.Acted.{acted}
 use Rattle.headers.proofs.Acting.{ran-headers}
-
-abbrev pub wantsSend : Wants
-wantsSend = record { window = false; request = true; dns = true; key = false; document = false }
 
 module _ (w : Waiting) (a : Answer) (new : List Cookie) (u : Url) where
   abbrev pub redirected : Program
   redirected = actOnHeaders w a new (send (redirection (withFragmentOf (w .url) u) w a))
 
   pub brings-redirect : (f : Fresh) → Brings (kinds (picked wantsSend f)) redirected
-  unfolding send
-  brings-redirect f = λ sts chosen. (refl, λ q. (refl, λ n. tt))
+  brings-redirect f = brings-send (redirection (withFragmentOf (w .url) u) w a)
 
   -- the headers are acted upon, and HTTP_SEND goes on from there
   pub redirects : (f : Fresh) (b : Tables) (to : Url) (o : Sending) → to ≡ withFragmentOf (w .url) u → o ≡ redirection to w a
-      → run (send o) (acted w a new b) ((request, f .request .0) ∷ ((dns, f .dns .0) ∷ [])) ≡ run redirected b (picked wantsSend f)
+      → run (send o) (acted w a new b) (numbersOf f) ≡ run redirected b (picked wantsSend f)
   redirects f b to o e r =
       ap (λ (p : Sending). run (send p) (acted w a new b) (picked wantsSend f)) (r ∙ ap (λ (v : Url). redirection v w a) e)
       ∙ sym (ran-headers w a new (send (redirection (withFragmentOf (w .url) u) w a)) b (picked wantsSend f))

@@ -20,7 +20,7 @@ ghost use mathlib.Core.Bool.{cond};
 ghost use lib.ListN.{take};
 ghost use Rattle.types.specs.declared.requests.Method.the-variants.{Get};
 ghost use Rattle.types.specs.declared.requests.OriginHeader.the-variants.{Null, From};
-ghost use Rattle.wim.specs.Script.{noData, isGetOrHead, urlOrigin};
+ghost use Rattle.wim.specs.Script.{noData};
 ghost use Rattle.wim.specs.Sending.{send};
 ghost use Rattle.wim.specs.Response.{actOnHeaders, inheriting, withFragmentOf, askedOrigin, originAfter, turnsToGet, redirection};
 ghost use Rattle.performing.specs.Performs.{Performs};
@@ -54,17 +54,6 @@ fn with_fragment_of(old: Url, u: Url) -> Url
     }
 }
 
-fn url_origin(u: Url) -> Origin
-    ensures { λ r. ⌜ r ≡ urlOrigin u ⌝ }
-{
-    let h = u.host;
-    let p = u.protocol;
-    Origin {
-        host: h,
-        protocol: p,
-    }
-}
-
 fn asked_origin(w: Waiting) -> Origin
     ensures { λ r. ⌜ r ≡ askedOrigin w ⌝ }
 {
@@ -91,7 +80,7 @@ fn kept_if(agrees: bool, o: Origin) -> OriginHeader
 fn origin_kept(u: Url, w: Waiting, o: Origin) -> OriginHeader
     ensures { λ r. ⌜ r ≡ originAfter u w (From o) ⌝ }
 {
-    let next = url_origin(u);
+    let next = request_tests::url_origin(u);
     let asked = asked_origin(w);
     let stays = labels::same_origin(next, asked);
     let own = labels::same_origin(asked, o);
@@ -108,26 +97,11 @@ fn origin_after(u: Url, w: Waiting, o: OriginHeader) -> OriginHeader
     }
 }
 
-fn is_get_or_head(m: Method) -> bool
-    ensures { λ r. ⌜ r ≡ isGetOrHead m ⌝ }
-{
-    match m {
-        Method::Get => true,
-        Method::Head => true,
-        Method::Post => false,
-        Method::Put => false,
-        Method::Delete => false,
-        Method::Connect => false,
-        Method::Options => false,
-        Method::Trace => false,
-    }
-}
-
 // A8:21 to 23
 fn turns_to_get(s: Status, m: Method) -> bool
     ensures { λ r. ⌜ r ≡ turnsToGet s m ⌝ }
 {
-    let reads = is_get_or_head(m);
+    let reads = request_tests::is_get_or_head(m);
     sorted::both(s.0 == 303, sorted::not(reads))
 }
 

@@ -1,6 +1,6 @@
 -- The ways through reload, on any tables and fresh numbers. No code stands here.
 use mathlib.Core.Path.{_≡_, refl, _∙_, ap}
-use mathlib.Core.List.{List, [], _∷_}
+use mathlib.Core.List.{List}
 use Rattle.types.specs.declared.labels.Fresh.{Fresh}
 use Rattle.types.specs.declared.labels.WindowNumber.{WindowNumber}
 use Rattle.types.specs.declared.requests.Cancelled.the-variants.{Bare}
@@ -8,17 +8,17 @@ use Rattle.types.specs.declared.requests.Reference.the-variants.{Req}
 use Rattle.types.specs.declared.requests.Sending.{Sending}
 use Rattle.types.specs.declared.rows.Document.{Document}
 use Rattle.tables.specs.Tables.{Tables}
-use Rattle.tables.specs.Labels.{Label, request, dns}
+use Rattle.tables.specs.Labels.{Label}
 use Rattle.wim.specs.Program.{run}
 use Rattle.wim.specs.Sending.{send}
 use Rattle.wim.specs.Main.{sendingTo, reload}
 use Rattle.fresh.specs.Wanted.{kinds, picked}
-use Rattle.fresh.proofs.Bringing.{Brings}
+use Rattle.fresh.specs.Brings.{Brings}
 use Rattle.dropping.specs.Effects.{cancelled}
 use Rattle.shown_in.specs.declared.Shown.{Shown}
 use Rattle.shown_in.specs.Shown.{shownAt}
 use Rattle.shown_in.proofs.Ways.{goesOn, shown-goes}
-use Rattle.visiting.proofs.Wanted.{wantsSend, brings-send}
+use Rattle.performing.proofs.Wanted.{wantsSend, numbersOf, brings-send}
 use Rattle.reloading.specs.Again.{again}
 
 -- THE LOOK.
@@ -30,10 +30,10 @@ looks w b f s e = shown-goes w (λ top. again w) b f s e
 pub brings-again : (w : WindowNumber) (d : Document) (f : Fresh) → Brings (kinds (picked wantsSend f)) (again w d)
 brings-again w d f = brings-send (sendingTo (Req w) (d .location) (d .referrer))
 
-ran-again : (w : WindowNumber) (d : Document) (f : Fresh) (b : Tables) → run (send (sendingTo (Req w) (d .location) (d .referrer))) (cancelled (Bare w) b) ((request, f .request .0) ∷ ((dns, f .dns .0) ∷ [])) ≡ run (again w d) b (picked wantsSend f)
+ran-again : (w : WindowNumber) (d : Document) (f : Fresh) (b : Tables) → run (send (sendingTo (Req w) (d .location) (d .referrer))) (cancelled (Bare w) b) (numbersOf f) ≡ run (again w d) b (picked wantsSend f)
 unfolding run
 ran-again w d f b = refl
 
 pub again-sends : (w : WindowNumber) (d : Document) (f : Fresh) (b : Tables) (o : Sending) → o ≡ sendingTo (Req w) (d .location) (d .referrer)
-    → run (send o) (cancelled (Bare w) b) ((request, f .request .0) ∷ ((dns, f .dns .0) ∷ [])) ≡ run (again w d) b (picked wantsSend f)
-again-sends w d f b o s = ap (λ (y : Sending). run (send y) (cancelled (Bare w) b) ((request, f .request .0) ∷ ((dns, f .dns .0) ∷ []))) s ∙ ran-again w d f b
+    → run (send o) (cancelled (Bare w) b) (numbersOf f) ≡ run (again w d) b (picked wantsSend f)
+again-sends w d f b o s = ap (λ (y : Sending). run (send y) (cancelled (Bare w) b) (numbersOf f)) s ∙ ran-again w d f b

@@ -16,11 +16,11 @@ use Rattle.sorted.specs.Table.{at, looked}
 use Rattle.tables.specs.Tables.{pendingDNS, keyOf, cmp, Tables}
 use Rattle.tables.specs.Labels.{Label}
 use Rattle.tables.specs.Rows.{sameHost}
-use Rattle.shapes.specs.Events.{open′, sealed}
+use Rattle.shapes.specs.Events.{unsealed, sealed}
 use Rattle.wim.specs.Program.{ask, answer, question, refuseUnless, refused, made, run}
 use Rattle.wim.specs.Main.{goOut, resolved}
 use Rattle.fresh.specs.Wanted.{kinds, picked}
-use Rattle.fresh.proofs.Bringing.{Brings}
+use Rattle.fresh.specs.Brings.{Brings}
 use Rattle.resolving.specs.Waits.{handedOver}
 
 -- THE QUESTION is looked up by its number.
@@ -65,7 +65,7 @@ module _ (q : Question) (address : Address) (f : Fresh) where
   unfolding goOut
   brings-sealed = (refl, λ k. tt)
 
-  pub ran-plain : (b : Tables) → run (goOut Plain q address) b (picked wantsNone f) ≡ made (handedOver q Keyless address b) (some (open′ address (q .request)))
+  pub ran-plain : (b : Tables) → run (goOut Plain q address) b (picked wantsNone f) ≡ made (handedOver q Keyless address b) (some (unsealed address (q .request)))
   unfolding run goOut
   ran-plain b = refl
 

@@ -18,8 +18,9 @@ use Rattle.tables.specs.Tables.{windows, documents, inputs, keyOf, cmp}
 use Rattle.tables.specs.Rows.{sameDocument}
 use Rattle.wim.specs.Nouns.{WindowNumber, DocumentNumber, Window, Document, Input, Top, Under}
 use Rattle.wim.specs.Walks.{windowNumbered, documentNumbered, steps, topAbove}
-use Rattle.rooted.proofs.Tests.{window-eq, same-document, fails}
-use Rattle.rooted.proofs.Stands.{Follows, Arrives, Framed, row-in, document-in, linear-pair}
+use Rattle.rooted.proofs.Tests.{fails}
+use Rattle.wim.proofs.Numbers.{found-document, window-eq, same-document}
+use Rattle.rooted.proofs.Stands.{Follows, Arrives, Framed, row-in, linear-pair}
 use Rattle.rooted.proofs.Lines.{is-topmost, is-held, up-top, top-itself, top-follows}
 use Rattle.rooted.proofs.Depth.{settled}
 
@@ -75,7 +76,7 @@ module _ (ws : List Window) (ds : List Document) (is : List Input) (F : Framed w
     -- a frame in a document that is there
     pub framed-frame : (d : Document) → r .parent ≡ Under (d .number) → (e : Document) → documentNumbered ds (d .number) ≡ some e → length withRow ≤ steps → Framed withRow ds is
     framed-frame d p e f l =
-        let w = F .windows-there e (document-in ds (d .number) e f .0) in
+        let w = F .windows-there e (found-document ds (d .number) e f .0) in
         let x = row-in ws (e .window) (w .0) (w .1) in
         let t = F .tops-there (w .0) (x .0) in
         let u : topAbove steps withRow ds (e .window) ≡ some (t .0) = lines-stay (e .window) (t .0) (ap (topAbove steps ws ds) (x .1) ∙ t .1) in
@@ -91,7 +92,7 @@ module _ (ws : List Window) (ds : List Document) (is : List Input) (F : Framed w
     document-stays : (n : DocumentNumber) (x : Document) → documentNumbered ds n ≡ some x → documentNumbered withDocument n ≡ some x
     unfolding documentNumbered
     document-stays n x e =
-        let z = document-in ds n x e in
+        let z = found-document ds n x e in
         find-beside (keyOf documents) (cmp documents) linear-pair (λ (y : Document). sameDocument (y .number) n) d ds
         (fails (sameDocument (d .number) n) (λ p. new x (z .0) (z .1 ∙ sym (same-document (d .number) n p)))) free ∙ e
 

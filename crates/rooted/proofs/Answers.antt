@@ -13,7 +13,8 @@ use Rattle.wim.specs.Walks.{documentsOf, activeAmong, documentNumbered, steps, 
 use Rattle.wim.specs.Program.{answer, reached, listening, when, listens}
 use Rattle.wim.specs.Response.{whereTo, upTo, newDocument, load, arrive, answerWindow, answerScript, answerReached, processResponse}
 use Rattle.wim.specs.Invariant.{Numbered}
-use Rattle.rooted.proofs.Stands.{Stands, document-in}
+use Rattle.wim.proofs.Numbers.{found-document}
+use Rattle.rooted.proofs.Stands.{Stands}
 use Rattle.rooted.proofs.Lines.{reached-row}
 use Rattle.rooted.proofs.Loaded.{stands-load}
 use Rattle.rooted.proofs.Walk.{Keeps}
@@ -52,7 +53,7 @@ module _ (b : Tables) (N : Numbered b) (S : Stands (b windows) (b documents) (b 
   listener-in n d e = go (documentNumbered (b documents) n) refl e
     where
       one : (x : Document) (t : Bool) → documentNumbered (b documents) n ≡ some x → when t (some x) ≡ some d → In d (b documents)
-      one x true f e = let q : x ≡ d = cc in subst (λ (y : Document). In y (b documents)) q (document-in (b documents) n x f .0)
+      one x true f e = let q : x ≡ d = cc in subst (λ (y : Document). In y (b documents)) q (found-document (b documents) n x f .0)
       one x false f e = never (cc)
 
       go : (o : Option Document) → documentNumbered (b documents) n ≡ o → listens (b windows) (b documents) o ≡ some d → In d (b documents)

@@ -14,8 +14,9 @@ use Rattle.tables.specs.Tables.{windows, cmp}
 use Rattle.tables.specs.Rows.{sameDocument}
 use Rattle.wim.specs.Nouns.{WindowNumber, DocumentNumber, Window, Document, Input, Under}
 use Rattle.wim.specs.Walks.{windowNumbered, documentNumbered, steps, topAbove}
-use Rattle.rooted.proofs.Tests.{window-eq, same-document}
-use Rattle.rooted.proofs.Stands.{Follows, Arrives, Stands, row-in, document-in}
+use Rattle.wim.proofs.Numbers.{window-eq, same-document}
+use Rattle.wim.proofs.Numbers.{found-document}
+use Rattle.rooted.proofs.Stands.{Follows, Arrives, Stands, row-in}
 use Rattle.rooted.proofs.Lines.{top-follows}
 
 -- what is left where `W` tells which windows go and `D` which documents
@@ -58,7 +59,7 @@ module _ (W : WindowNumber → Bool) (D : DocumentNumber → Bool) (ws : List Wi
       held x r n d p e f g =
           let z = row-in ws x r e in
           let k : D n ≡ false = C .parents r n (z .0) (ap W (sym (z .1)) ∙ p) f in
-          let y = document-in ds n d g in
+          let y = found-document ds n d g in
           (d, document-stays n k ∙ g, refl, C .homes d (y .0) (ap D (y .1) ∙ k))
 
   pub stands-cut : Stands (windowsLeft W ws) (documentsLeft D ds) (inputsLeft D is)

@@ -1,7 +1,6 @@
 -- A line of parents that ends has no more windows than the table has rows.
-use mathlib.Core.Path.{_≡_, refl, sym, _∙_, ap, subst}
-use mathlib.Core.Logic.{_⊎_, inl, inr}
-use mathlib.Core.List.{List, _∷_}
+use mathlib.Core.Path.{_≡_, refl, sym, _∙_, subst}
+use mathlib.Core.List.{List}
 use mathlib.Core.Option.{Option, none, some}
 use Prim.Native.Nat.{ℕ, zero, suc, _≤_, _<_}
 use native.Mathlib.Omega.{arith}
@@ -11,34 +10,10 @@ use Rattle.sorted.specs.Table.{In}
 use Rattle.sorted.proofs.Never.{never}
 use Rattle.wim.specs.Nouns.{WindowNumber, Window, Document}
 use Rattle.wim.specs.Walks.{Above, missing, topmost, heldBy, above, climb, topAbove}
+use Rattle.wim.proofs.Pigeon.{pigeon}
+use Rattle.wim.proofs.Walks.{top-more}
 use Rattle.rooted.proofs.Stands.{row-in}
-use Rattle.rooted.proofs.Lines.{topmost-row, held-row, top-more}
-
--- one row taken out of a list
-take-out : {A : Type 0} (l : List A) (x : A) → In x l → (m : List A) × (length l ≡ suc (length m)) × ((y : A) → In y l → (y ≡ x → ⊥) → In y m)
-take-out (z ∷ l) x (inl e) = (l, refl, pass)
-  where
-    pass : (y : _) → (y ≡ z) ⊎ In y l → (y ≡ x → ⊥) → In y l
-    pass y (inl p) n = absurd (n (p ∙ sym e))
-    pass y (inr i) n = i
-take-out (z ∷ l) x (inr i) = go (take-out l x i)
-  where
-    go : ((m : List _) × (length l ≡ suc (length m)) × ((y : _) → In y l → (y ≡ x → ⊥) → In y m)) → (m : List _) × (suc (length l) ≡ suc (length m)) × ((y : _) → (y ≡ z) ⊎ In y l → (y ≡ x → ⊥) → In y m)
-    go s = (z ∷ s .0, ap suc (s .1), pass)
-      where
-        pass : (y : _) → (y ≡ z) ⊎ In y l → (y ≡ x → ⊥) → (y ≡ z) ⊎ In y (s .0)
-        pass y (inl p) n = inl p
-        pass y (inr j) n = inr (s .2 y j n)
-
--- rows of k different heights are k rows
-pigeon : {A : Type 0} (H : ℕ → A → Type 0) → ((m n : ℕ) (x : A) → H m x → H n x → m ≡ n) → (k : ℕ) (l : List A) → ((m : ℕ) → m < k → (x : A) × In x l × H m x) → k ≤ length l
-pigeon H u zero l w = omega arith
-pigeon H u (suc k) l w =
-    let x = w k (omega arith) in
-    let s = take-out l (x .0) (x .1) in
-    let r = pigeon H u k (s .0) (λ m p. let y = w m (omega arith) in (y .0, s .2 (y .0) (y .1) (λ e. let z : m ≡ k = u m k (x .0) (subst (H m) e (y .2)) (x .2) in omega arith), y .2)) in
-    let e = s .1 in
-    omega arith
+use Rattle.rooted.proofs.Lines.{topmost-row, held-row}
 
 module _ (ws : List Window) (ds : List Document) where
   -- the window stands exactly n documents below a top-level window

@@ -13,7 +13,8 @@ use Rattle.tables.specs.Tables.{inputs, keyOf, cmp}
 use Rattle.tables.specs.Rows.{sameDocument}
 use Rattle.wim.specs.Nouns.{DocumentNumber, Window, Document, Input, News}
 use Rattle.wim.specs.Walks.{documentNumbered}
-use Rattle.rooted.proofs.Tests.{document-eq, same-document, document-same}
+use Rattle.wim.proofs.Numbers.{document-eq, same-document}
+use Rattle.rooted.proofs.Tests.{document-same}
 use Rattle.rooted.proofs.Stands.{Arrives, Stands}
 use Rattle.rooted.proofs.Counted.{rising, Gapless, counted}
 use Rattle.rooted.proofs.Added.{framed-input}

@@ -15,7 +15,8 @@ use Rattle.tables.specs.Rows.{sameWindow, oneOf}
 use Rattle.wim.specs.Nouns.{WindowNumber, Window, Document, Input}
 use Rattle.wim.specs.Walks.{documentsOf, activeAmong}
 use Rattle.wim.specs.Response.{laterThan}
-use Rattle.rooted.proofs.Tests.{same-window, window-same, not-both}
+use Rattle.wim.proofs.Numbers.{same-window}
+use Rattle.rooted.proofs.Tests.{window-same, not-both}
 use Rattle.rooted.proofs.Stands.{Stands}
 use Rattle.rooted.proofs.Removed.{numbers, numbered-in, in-numbered, Once, Closed}
 

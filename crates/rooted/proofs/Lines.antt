@@ -4,13 +4,14 @@ use mathlib.Core.Logic.{_⊎_, inl, inr}
 use mathlib.Core.Bool.{Bool, true, false, cond, _||_}
 use mathlib.Core.List.{List}
 use mathlib.Core.Option.{Option, none, some}
-use Prim.Native.Nat.{ℕ, zero, suc, _≤_}
-use native.Mathlib.Decide.{le-ind}
+use Prim.Native.Nat.{ℕ, zero, suc}
+use native.Mathlib.Omega.{arith}
 use Rattle.sorted.proofs.Never.{never}
 use Rattle.tables.specs.Rows.{oneOf}
 use Rattle.wim.specs.Nouns.{WindowNumber, DocumentNumber, Window, Document, Parent, Top, Under}
+use Rattle.wim.proofs.Walks.{top-more}
 use Rattle.wim.specs.Walks.{Above, missing, topmost, heldBy, aboveDocument, aboveParent, aboveRow, above, climb, windowNumbered, documentNumbered, topAbove, reachedFrom, isUnder}
-use Rattle.rooted.proofs.Tests.{or-one}
+use Rattle.sorted.proofs.Tests.{or-one}
 
 module _ (ws : List Window) (ds : List Document) where
   -- WHAT STANDS ABOVE: nothing, or a document; in both cases the window has a row.
@@ -57,21 +58,6 @@ module _ (ws : List Window) (ds : List Document) where
       row : (o : Option Window) → windowNumbered ws v ≡ o → aboveRow ds o ≡ heldBy d → Held v d
       row none g e = never (cc)
       row (some r) g e = par r (r .parent) refl e g
-
-  -- MORE STEPS.
-  top-next : (n : ℕ) (v t : WindowNumber) → topAbove n ws ds v ≡ some t → topAbove (suc n) ws ds v ≡ some t
-  unfolding topAbove
-  top-next zero v t e = never (cc)
-  top-next (suc n) v t e = go (above ws ds v) e (top-next n)
-    where
-      go : (u : Above) → climb none (some v) (λ d. topAbove n ws ds (d .window)) u ≡ some t → ((x s : WindowNumber) → topAbove n ws ds x ≡ some s → topAbove (suc n) ws ds x ≡ some s)
-          → climb none (some v) (λ d. topAbove (suc n) ws ds (d .window)) u ≡ some t
-      go missing e ih = never (cc)
-      go topmost e ih = e
-      go (heldBy d) e ih = ih (d .window) t e
-
-  pub top-more : (n m : ℕ) (v t : WindowNumber) → n ≤ m → topAbove n ws ds v ≡ some t → topAbove m ws ds v ≡ some t
-  top-more n m v t l e = le-ind (λ (k : ℕ). topAbove k ws ds v ≡ some t) e (λ k h. top-next k v t) m l
 
   -- the window above has the same top-level window, with a step less
   pub top-up : (n : ℕ) (v t : WindowNumber) (d : Document) → above ws ds v ≡ heldBy d → topAbove (suc n) ws ds v ≡ some t → topAbove n ws ds (d .window) ≡ some t
@@ -124,7 +110,7 @@ module _ (ws : List Window) (ds : List Document) where
         further : (k : ℕ) (d : Document) → isUnder m ws ds gone (d .window) ≡ true → topAbove k ws ds (d .window) ≡ some t
             → ((k : ℕ) (x t : WindowNumber) → isUnder m ws ds gone x ≡ true → topAbove (suc k) ws ds x ≡ some t → topAbove k ws ds v ≡ some t) → topAbove k ws ds v ≡ some t
         further zero d q e ih = never (cc)
-        further (suc k) d q e ih = top-next k v t (ih k (d .window) t q e)
+        further (suc k) d q e ih = top-more ws ds k (suc k) v t (omega arith) (ih k (d .window) t q e)
 
         go : (a : Above) → above ws ds x ≡ a → climb false false (λ d. oneOf (d .number) gone || isUnder m ws ds gone (d .window)) a ≡ true → climb none (some x) (λ d. topAbove k ws ds (d .window)) a ≡ some t
             → ((k : ℕ) (x t : WindowNumber) → isUnder m ws ds gone x ≡ true → topAbove (suc k) ws ds x ≡ some t → topAbove k ws ds v ≡ some t) → topAbove k ws ds v ≡ some t

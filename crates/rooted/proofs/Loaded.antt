@@ -19,8 +19,9 @@ use Rattle.wim.specs.Nouns.{WindowNumber, DocumentNumber, Window, Document, Inp
 use Rattle.wim.specs.Walks.{documentsOf, activeAmong, windowNumbered, documentNumbered, steps, topAbove, isUnder, removal}
 use Rattle.wim.specs.History.{placeOf}
 use Rattle.wim.specs.Response.{laterThan, upTo}
-use Rattle.rooted.proofs.Tests.{window-eq, fails, not-both}
-use Rattle.rooted.proofs.Stands.{Follows, Stands, row-in, document-in}
+use Rattle.rooted.proofs.Tests.{fails, not-both}
+use Rattle.wim.proofs.Numbers.{found-document, window-eq}
+use Rattle.rooted.proofs.Stands.{Follows, Stands, row-in}
 use Rattle.rooted.proofs.Lines.{not-under-own}
 use Rattle.rooted.proofs.Counted.{rising, Gapless, counted}
 use Rattle.rooted.proofs.Cut.{windowsLeft, documentsLeft, inputsLeft, Cut, row-stays, was, stays, stands-cut}
@@ -59,7 +60,7 @@ module _ (ws : List Window) (ds : List Document) (is : List Input) (S : Stands w
   -- THE WINDOW STAYS: no document of its own stands above it.
   own : (o : Option Document) (n : DocumentNumber) (d : Document) → documentNumbered ds n ≡ some d → oneOf (d .number) (later o) ≡ true → d .window ≡ v
   own none n d e g = never (cc)
-  own (some a) n d e g = in-later ws ds is S once v a d (is-later ws ds is S once v (some a) d (document-in ds n d e .0) g) .1
+  own (some a) n d e g = in-later ws ds is S once v a d (is-later ws ds is S once v (some a) d (found-document ds n d e .0) g) .1
 
   not-under : isUnder steps ws ds gone v ≡ false
   not-under =

@@ -11,8 +11,9 @@ use Rattle.tables.specs.Rows.{sameWindow, oneOf, windowOneOf}
 use Rattle.wim.specs.Nouns.{WindowNumber, DocumentNumber, Window, Document, Input, Under}
 use Rattle.wim.specs.Walks.{steps, isUnder, Removal, removal}
 use Rattle.wim.specs.Script.{withWindow}
-use Rattle.rooted.proofs.Tests.{or-neither, neither-or, fails, not-both, same-window, one-in, in-one, window-in, in-window, in-image, image-in}
-use Rattle.rooted.proofs.Stands.{Stands, in-row, document-in, in-document}
+use Rattle.rooted.proofs.Tests.{or-neither, neither-or, fails, not-both, one-in, in-one, window-in, in-window, in-image, image-in}
+use Rattle.wim.proofs.Numbers.{found-document, same-window}
+use Rattle.rooted.proofs.Stands.{Stands, in-row, in-document}
 use Rattle.rooted.proofs.Lines.{is-held, top-up, under-settled, under-up}
 use Rattle.rooted.proofs.Cut.{Cut}
 
@@ -89,7 +90,7 @@ module _ (ws : List Window) (ds : List Document) (is : List Input) (S : Stands w
   parent-stays : (r : Window) (n : DocumentNumber) → In r ws → W (r .number) ≡ false → r .parent ≡ Under n → D n ≡ false
   parent-stays r n i e p = fails (D n) (λ q. (let z = document-goes n q in
       let f = in-document ds n (z .0) (z .1) (sym (z .2)) in
-      let y = document-in ds n (f .0) (f .1) in
+      let y = found-document ds n (f .0) (f .1) in
       let o : f .0 ≡ z .0 = once (f .0) (z .0) (y .0) (z .1) (y .1 ∙ z .2) in
       let h = is-held ws ds (r .number) r n (f .0) (in-row ws s r i) p (f .1) in
       let u = or-neither (oneOf (f .0 .number) gone) (isUnder 31 ws ds gone (f .0 .window)) (sym (under-up ws ds gone 31 (r .number) (f .0) h) ∙ window-stays r i e) in

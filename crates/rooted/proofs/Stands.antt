@@ -1,22 +1,22 @@
 -- Rooted speaks of three tables only: windows, documents and inputs. Here it is said of these three lists.
-use mathlib.Core.Path.{_≡_, sym, _∙_, ap}
+use mathlib.Core.Path.{_≡_}
 use mathlib.Core.Logic.{_⊎_}
 use mathlib.Core.Bool.{true}
 use mathlib.Core.List.{List, []}
 use mathlib.Core.Option.{some}
 use Prim.Native.Nat.{ℕ, suc}
-use Rattle.sorted.specs.declared.Order.{Order}
 use Rattle.sorted.specs.Order.{Linear, cmpℕ, lex}
-use Rattle.sorted.specs.Table.{In, Sorted, at}
+use Rattle.sorted.specs.Table.{In, Sorted}
 use Rattle.sorted.proofs.Linear.{linearℕ, linear-lex}
-use Rattle.sorted.proofs.Member.{find-in, find-some}
+use Rattle.sorted.proofs.Member.{find-some}
 use Rattle.sorted.proofs.Lookup.{at-key, at-in}
 use Rattle.tables.specs.Tables.{windows, documents, inputs, keyOf, cmp, Tables}
 use Rattle.tables.specs.Rows.{sameDocument}
 use Rattle.wim.specs.Nouns.{WindowNumber, DocumentNumber, Window, Document, Input}
 use Rattle.wim.specs.Walks.{windowNumbered, documentNumbered, steps, topAbove}
 use Rattle.wim.specs.Invariant.{Rooted}
-use Rattle.rooted.proofs.Tests.{window-eq, same-document, document-same}
+use Rattle.wim.proofs.Numbers.{window-eq}
+use Rattle.rooted.proofs.Tests.{document-same}
 
 -- a document at its window's first place, or at the place after another
 abbrev pub Follows : List Document → Document → Type 0
@@ -77,19 +77,9 @@ pub in-row : (ws : List Window) → Sorted (keyOf windows) (cmp windows) ws → 
 unfolding windowNumbered
 in-row ws s r i = at-in (keyOf windows) (cmp windows) linearℕ ws r s i
 
-pub document-in : (ds : List Document) (n : DocumentNumber) (d : Document) → documentNumbered ds n ≡ some d → In d ds × (d .number ≡ n)
-unfolding documentNumbered
-document-in ds n d e = let z = find-in (λ (x : Document). sameDocument (x .number) n) ds d e in (z .0, same-document (d .number) n (z .1))
-
 pub in-document : (ds : List Document) (n : DocumentNumber) (d : Document) → In d ds → d .number ≡ n → (e : Document) × (documentNumbered ds n ≡ some e)
 unfolding documentNumbered
 in-document ds n d i e = find-some (λ (x : Document). sameDocument (x .number) n) ds d i (document-same (d .number) n e)
-
--- ROWS WITH ONE KEY are one, in tables in order.
-pub one-row : {R K : Type 0} (key : R → K) (order : K → K → Order) → Linear K order → (l : List R) → Sorted key order l → (x y : R) → In x l → In y l → key x ≡ key y → x ≡ y
-one-row {R} {K} key order O l s x y i j e =
-    let z : some x ≡ some y = sym (at-in key order O l x s i) ∙ ap (λ (k : K). at key order k l) e ∙ at-in key order O l y s j in
-    cc
 
 pub linear-pair : Linear (ℕ × ℕ) (lex cmpℕ cmpℕ)
 linear-pair = linear-lex linearℕ linearℕ

@@ -16,8 +16,10 @@ use Rattle.tables.specs.Tables.{documents, keyOf, cmp}
 use Rattle.tables.specs.Rows.{sameWindow, withActive, settingActive}
 use Rattle.wim.specs.Nouns.{WindowNumber, Window, Document, Input}
 use Rattle.wim.specs.Walks.{windowNumbered}
-use Rattle.rooted.proofs.Tests.{same-window, window-same, fails, not-both}
-use Rattle.rooted.proofs.Stands.{Follows, Framed, Stands, one-row, linear-pair}
+use Rattle.wim.proofs.Numbers.{same-window}
+use Rattle.numbered.proofs.Once.{one-row}
+use Rattle.rooted.proofs.Tests.{window-same, fails, not-both}
+use Rattle.rooted.proofs.Stands.{Follows, Framed, Stands, linear-pair}
 use Rattle.rooted.proofs.Revised.{Steady, steady-where, steady-after, framed-revised, stands-revised}
 use Rattle.rooted.proofs.Added.{still-in, framed-document}
 

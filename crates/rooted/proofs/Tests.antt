@@ -1,19 +1,17 @@
 -- Numbers under their labels compared, one of some numbers, and what is in a list of images.
 use mathlib.Core.Path.{_≡_, refl, ap}
 use mathlib.Core.Logic.{_⊎_, inl, inr}
-use mathlib.Core.Bool.{Bool, true, false, _&&_, _||_}
+use mathlib.Core.Bool.{Bool, true, false, _||_}
 use mathlib.Core.List.{List, [], _∷_, map}
-use borrow.Author.Tests.{eqb-true, eq-eqb}
+use borrow.Author.Tests.{eq-eqb}
 use Rattle.sorted.specs.Table.{In}
 use Rattle.sorted.proofs.Never.{never}
+use Rattle.sorted.proofs.Tests.{or-left, or-right, or-one}
 use Rattle.tables.specs.Rows.{sameWindow, sameDocument, oneOf, windowOneOf}
 use Rattle.wim.specs.Nouns.{WindowNumber, DocumentNumber}
+use Rattle.wim.proofs.Numbers.{same-window, same-document}
 
 -- TESTS.
-pub and-both : (b c : Bool) → (b && c) ≡ true → (b ≡ true) × (c ≡ true)
-and-both true c e = (refl, e)
-and-both false c e = never (cc)
-
 pub or-neither : (b c : Bool) → (b || c) ≡ false → (b ≡ false) × (c ≡ false)
 or-neither true c e = never (cc)
 or-neither false c e = (refl, e)
@@ -21,18 +19,6 @@ or-neither false c e = (refl, e)
 pub neither-or : (b c : Bool) → b ≡ false → c ≡ false → (b || c) ≡ false
 neither-or true c e f = e
 neither-or false c e f = f
-
-or-left : (b c : Bool) → b ≡ true → (b || c) ≡ true
-or-left true c e = refl
-or-left false c e = never (cc)
-
-or-right : (b c : Bool) → c ≡ true → (b || c) ≡ true
-or-right true c e = refl
-or-right false c e = e
-
-pub or-one : (b c : Bool) → (b || c) ≡ true → (b ≡ true) ⊎ (c ≡ true)
-or-one true c e = inl refl
-or-one false c e = inr e
 
 -- a test fails if its passing leads nowhere
 pub fails : (b : Bool) → (b ≡ true → ⊥) → b ≡ false
@@ -43,20 +29,8 @@ pub not-both : {A : Type 0} {b : Bool} → b ≡ true → b ≡ false → A
 not-both {b} e f = never (cc)
 
 -- NUMBERS.
-pub window-eq : (v w : WindowNumber) → v .0 ≡ w .0 → v ≡ w
-window-eq v w e i = record { 0 = e i }
-
-pub document-eq : (v w : DocumentNumber) → v .0 ≡ w .0 → v ≡ w
-document-eq v w e i = record { 0 = e i }
-
-pub same-window : (v w : WindowNumber) → sameWindow v w ≡ true → v ≡ w
-same-window v w e = window-eq v w (eqb-true (v .0) (w .0) e)
-
 pub window-same : (v w : WindowNumber) → v ≡ w → sameWindow v w ≡ true
 window-same v w e = eq-eqb (v .0) (w .0) (ap (λ (x : WindowNumber). x .0) e)
-
-pub same-document : (m n : DocumentNumber) → sameDocument m n ≡ true → m ≡ n
-same-document m n e = document-eq m n (eqb-true (m .0) (n .0) e)
 
 pub document-same : (m n : DocumentNumber) → m ≡ n → sameDocument m n ≡ true
 document-same m n e = eq-eqb (m .0) (n .0) (ap (λ (x : DocumentNumber). x .0) e)

@@ -1,2 +1,3 @@
--- What is stored first.
+-- The laws of what a script's step stands on and stores.
+pub mod Getting
 pub mod Running

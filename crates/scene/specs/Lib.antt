@@ -1,2 +1,3 @@
--- What every script step stores.
+-- The document that a command means, and what every script step stores.
+pub mod Gotten
 pub mod Stored

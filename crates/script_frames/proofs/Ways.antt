@@ -1,6 +1,5 @@
 -- The ways through IFRAME, on any tables and fresh numbers. No code stands here.
 use mathlib.Core.Path.{_≡_, refl, sym, _∙_, ap}
-use mathlib.Core.Bool.{Bool, true, false}
 use mathlib.Core.List.{List, [], _∷_}
 use Rattle.types.specs.declared.addresses.Url.{Url}
 use Rattle.types.specs.declared.browser.Browser.{Browser as State}
@@ -14,23 +13,23 @@ use Rattle.types.specs.declared.requests.Reference.the-variants.{Req}
 use Rattle.types.specs.declared.requests.Sending.{Sending}
 use Rattle.types.specs.declared.rows.Document.{Document}
 use Rattle.types.specs.declared.rows.Window.{Window}
-use Rattle.sorted.specs.Table.{put, looked}
+use Rattle.sorted.specs.Table.{put}
 use Rattle.tables.specs.Tables.{windows, documents, Tables, apply}
 use Rattle.tables.specs.Labels.{Label}
-use Rattle.wim.specs.Program.{answer, when, withOrigin, run}
+use Rattle.wim.specs.Program.{answer, run}
 use Rattle.wim.specs.Sending.{send}
-use Rattle.wim.specs.Script.{noData, otherwise, sendingFrom, iframeIn, iframe}
+use Rattle.wim.specs.Script.{noData, sendingFrom, iframeIn, iframe}
 use Rattle.wim.specs.Step.{freshLabels}
 use Rattle.wim.specs.View.{rowsOf}
-use Rattle.wim.specs.Walks.{activeDocument, isReached}
 use Rattle.fresh.specs.Wanted.{kinds, picked}
-use Rattle.fresh.proofs.Bringing.{Brings}
+use Rattle.fresh.specs.Brings.{Brings}
 use Rattle.scene.specs.declared.Scene.{Scene}
+use Rattle.scene.specs.Gotten.{gotten}
 use Rattle.scene.specs.Stored.{first, stored}
 use Rattle.performing.specs.Performs.{Performs}
 use Rattle.performing.proofs.Ways.{performs-as}
-use Rattle.script_sendings.proofs.Ways.{wantsOpen, numbersOf, brings-send}
-use Rattle.script_frames.specs.Frame.{gotten, frameWindow}
+use Rattle.performing.proofs.Wanted.{wantsOpen, numbersOf, brings-send}
+use Rattle.script_frames.specs.Frame.{frameWindow}
 
 -- what goes out into the frame's window
 abbrev pub byFrame : Document → Url → WindowNumber → Sending
@@ -54,14 +53,6 @@ frame-sends s url e f b row o g h =
     ran-frame s url e f b
     ∙ ap (λ (x : Window). run (send (byFrame (s .document) url (f .window))) (hung s x b) (numbersOf f)) (sym g)
     ∙ ap (λ (y : Sending). run (send y) (hung s row b) (numbersOf f)) (sym h)
-
--- GETWINDOW, of what was found
-module _ (ws : List Window) (ds : List Document) (d : Document) (x : WindowNumber) (found : Bool) (e : Document) (h : looked found e ≡ when (isReached ws ds x) (withOrigin d (activeDocument ds x))) where
-  pub found-one : found ≡ true → e ≡ gotten ws ds d x
-  found-one p = ap (otherwise d) (ap (λ (y : Bool). looked y e) (sym p) ∙ h)
-
-  pub found-none : found ≡ false → d ≡ gotten ws ds d x
-  found-none p = ap (otherwise d) (ap (λ (y : Bool). looked y e) (sym p) ∙ h)
 
 -- UNDER WHICH DOCUMENT.
 module _ (b : State) (s : Scene) (url : Url) (f : Fresh) (r : Performed) where

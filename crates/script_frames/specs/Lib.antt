@@ -1,2 +1,2 @@
--- What IFRAME hangs, and where.
+-- What IFRAME hangs.
 pub mod Frame

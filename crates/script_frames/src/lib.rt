@@ -2,8 +2,6 @@
 use scene::Scene;
 use types::addresses::Url;
 use types::browser::Browser;
-use types::browser::Documents;
-use types::browser::Windows;
 use types::commands::Holder;
 use types::labels::DocumentNumber;
 use types::labels::Fresh;
@@ -16,23 +14,10 @@ use types::rows::Opener;
 use types::rows::Parent;
 use types::rows::Window;
 ghost use mathlib.Core.Path.{_≡_};
-ghost use lib.ListN.{take};
 ghost use Rattle.wim.specs.Script.{iframeIn, iframe};
 ghost use Rattle.scene.specs.Stored.{first};
 ghost use Rattle.performing.specs.Performs.{Performs};
-ghost use Rattle.script_frames.specs.Frame.{gotten, frameWindow};
-
-// GETWINDOW (000 A2): the active document of that window if it is reached and of the script's origin, otherwise the script's own.
-fn get_window(ws: Windows, ds: Documents, d: Document, x: WindowNumber) -> Document
-    ensures { λ r. ⌜ r ≡ gotten (take (ws .count) (ws .rows)) (take (ds .count) (ds .rows)) d x ⌝ }
-{
-    let a = walks::of_origin(ws, ds, d, x);
-    if a.found {
-        let e = a.row;
-        return e;
-    }
-    d
-}
+ghost use Rattle.script_frames.specs.Frame.{frameWindow};
 
 // A7:33
 fn frame_window(v: WindowNumber, n: DocumentNumber) -> Window
@@ -82,7 +67,7 @@ pub fn iframe(b: Browser, s: Scene, url: Url, holder: Holder, f: Fresh) -> Perfo
         Holder::Within(x) => {
             let ws = b.windows;
             let ds = b.documents;
-            let e = get_window(ws, ds, d, x);
+            let e = scene::get_window(ws, ds, d, x);
             hang(b, s, url, e, f)
         }
     }

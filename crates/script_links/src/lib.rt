@@ -74,7 +74,7 @@ pub fn form(
 {
     let w = s.window;
     let d = s.document;
-    if script_sendings::is_form_method(method) {
+    if request_tests::is_form_method(method) {
         let v = aimed_at(b, s, target, f);
         let o = script_sendings::form_sending(d, url, method, data, Reference::Req(v));
         return navigate(b, s, target, v, Opener::OpenedBy(w), o, f);

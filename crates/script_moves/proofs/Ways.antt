@@ -22,7 +22,7 @@ use Rattle.performing.proofs.Ways.{performs-as}
 use Rattle.silent.specs.Ends.{Ends}
 use Rattle.history.specs.declared.Towards.{Towards}
 use Rattle.history.specs.Directions.{nav}
-use Rattle.history.specs.Navigates.{Leaves, Navigates}
+use Rattle.history.specs.MovesTowards.{Leaves, MovesTowards}
 use Rattle.scene.specs.declared.Scene.{Scene}
 use Rattle.scene.specs.Stored.{first, stored}
 use Rattle.scene.proofs.Running.{stores-first, brings-first}
@@ -41,7 +41,7 @@ module _ (s : Scene) (x : WindowNumber) (b : State) (f : Fresh) (r : Performed) 
   leaves : Leaves (first s) (rowsOf b) (stored s (rowsOf b))
   leaves = record { runs = λ p l. stores-first s p (rowsOf b) l; brings = λ p k. brings-first s p [] k }
 
-  pub navigates : (q : Towards) → Navigates q v b e f r → Performs (getNavigableWindow (s .window) (s .document) x (λ (u : WindowNumber). nav q u (first s))) b f r
+  pub navigates : (q : Towards) → MovesTowards q v b e f r → Performs (getNavigableWindow (s .window) (s .document) x (λ (u : WindowNumber). nav q u (first s))) b f r
   navigates q a = performs-as _ (nav q v (first s)) b f r (lands (λ (u : WindowNumber). nav q u (first s))) (a .performs (first s) _ _ leaves refl kept)
 
   -- CLOSE: what goes with the window is taken out

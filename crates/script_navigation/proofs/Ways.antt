@@ -20,13 +20,13 @@ use Rattle.wim.specs.Script.{newTopWindow}
 use Rattle.wim.specs.Step.{freshLabels}
 use Rattle.wim.specs.View.{rowsOf}
 use Rattle.fresh.specs.Wanted.{kinds, picked}
-use Rattle.fresh.proofs.Bringing.{Brings}
+use Rattle.fresh.specs.Brings.{Brings}
 use Rattle.dropping.specs.Effects.{cancelled}
 use Rattle.scene.specs.declared.Scene.{Scene}
 use Rattle.scene.specs.Stored.{first, stored}
 use Rattle.performing.specs.Performs.{Performs}
 use Rattle.performing.proofs.Ways.{performs-as}
-use Rattle.script_sendings.proofs.Ways.{wantsSend, wantsOpen, numbersOf, brings-send}
+use Rattle.performing.proofs.Wanted.{wantsSend, wantsOpen, numbersOf, brings-send}
 use Rattle.script_navigation.specs.Navigation.{intoNew, intoExisting, navigation, Opens, Navigates}
 
 -- WHAT IS BROUGHT.

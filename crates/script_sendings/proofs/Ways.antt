@@ -1,7 +1,7 @@
 -- How a step ends in HTTP_SEND, on any tables and fresh numbers. No code stands here.
-use mathlib.Core.Path.{_≡_, refl, sym, subst}
+use mathlib.Core.Path.{_≡_, sym, subst}
 use mathlib.Core.Bool.{true, false}
-use mathlib.Core.List.{List, [], _∷_}
+use mathlib.Core.List.{List}
 use Rattle.types.specs.declared.browser.Browser.{Browser as State}
 use Rattle.types.specs.declared.browser.Draft.{Draft}
 use Rattle.types.specs.declared.labels.Fresh.{Fresh}
@@ -9,32 +9,17 @@ use Rattle.types.specs.declared.labels.Wants.{Wants}
 use Rattle.types.specs.declared.refusals.Performed.{Performed}
 use Rattle.types.specs.declared.requests.Sending.{Sending}
 use Rattle.tables.specs.Tables.{Table, Tables}
-use Rattle.tables.specs.Labels.{request, dns, Label}
 use Rattle.wim.specs.Program.{Program, Outcome, run}
 use Rattle.wim.specs.Sending.{send}
 use Rattle.wim.specs.Step.{fitted, concluded}
 use Rattle.wim.specs.View.{rowsOf}
 use Rattle.fresh.specs.Wanted.{picked, ready}
-use Rattle.fresh.proofs.Bringing.{Brings}
 use Rattle.draft.specs.Holds.{Holds}
 use Rattle.draft.specs.Gives.{Answers}
 use Rattle.performing.specs.Performs.{Performs}
 use Rattle.performing.proofs.Ways.{goes-on}
+use Rattle.performing.proofs.Wanted.{numbersOf}
 use Rattle.sending.specs.Sends.{Sends}
-
--- what HTTP_SEND brings, and the same with a window before it
-abbrev pub wantsSend : Wants
-wantsSend = record { window = false; request = true; dns = true; key = false; document = false }
-
-abbrev pub wantsOpen : Wants
-wantsOpen = record { window = true; request = true; dns = true; key = false; document = false }
-
-abbrev pub numbersOf : Fresh → List Label
-numbersOf f = (request, f .request .0) ∷ ((dns, f .dns .0) ∷ [])
-
-pub brings-send : (o : Sending) → Brings (request ∷ (dns ∷ [])) (send o)
-unfolding send
-brings-send o = λ sts chosen. (refl, λ q. (refl, λ n. tt))
 
 -- a program that goes on as HTTP_SEND does from changed tables, and a draft that stands for them
 pub sends-on : (p : Program) (b : State) (f : Fresh) (r : Performed) (w : Wants) (o : Sending) (d : Draft) (ts : List Table) (c : Tables)

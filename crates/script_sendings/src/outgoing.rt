@@ -1,6 +1,6 @@
 // What goes out by each command: the script's document is the referrer (A7:15), and its policy goes with it (A7:16).
-use crate::method_tests::is_get;
-use crate::method_tests::is_get_or_head;
+use request_tests::is_get;
+use request_tests::is_get_or_head;
 use types::addresses::Parameters;
 use types::addresses::Url;
 use types::labels::WindowNumber;

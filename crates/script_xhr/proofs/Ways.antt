@@ -22,12 +22,12 @@ use Rattle.wim.specs.Script.{isForbidden, urlOrigin, xhrSending, xhr}
 use Rattle.wim.specs.Step.{freshLabels}
 use Rattle.wim.specs.View.{rowsOf}
 use Rattle.fresh.specs.Wanted.{kinds, picked}
-use Rattle.fresh.proofs.Bringing.{Brings}
+use Rattle.fresh.specs.Brings.{Brings}
 use Rattle.scene.specs.declared.Scene.{Scene}
 use Rattle.scene.specs.Stored.{first, stored}
 use Rattle.performing.specs.Performs.{Performs}
 use Rattle.performing.proofs.Ways.{performs-as}
-use Rattle.script_sendings.proofs.Ways.{wantsSend, numbersOf, brings-send}
+use Rattle.performing.proofs.Wanted.{wantsSend, numbersOf, brings-send}
 
 pub brings-fetch : (s : Scene) (o : Sending) (f : Fresh) → Brings (kinds (picked wantsSend f)) (first s (send o))
 brings-fetch s o f = brings-send o

@@ -1,6 +1,5 @@
 // The command of a script that fetches for the script itself: XMLHTTPREQUEST (000 A7:60 to 72).
 use scene::Scene;
-use types::addresses::Origin;
 use types::addresses::Url;
 use types::browser::Browser;
 use types::labels::Fresh;
@@ -14,21 +13,10 @@ use types::requests::Reference;
 use types::requests::Sending;
 ghost use mathlib.Core.Path.{_≡_};
 ghost use Rattle.types.specs.declared.requests.Reference.the-variants.{Xhr};
-ghost use Rattle.wim.specs.Script.{urlOrigin, xhr};
+ghost use Rattle.wim.specs.Script.{xhr};
 ghost use Rattle.wim.specs.Sending.{send};
 ghost use Rattle.scene.specs.Stored.{first};
 ghost use Rattle.performing.specs.Performs.{Performs};
-
-fn url_origin(u: Url) -> Origin
-    ensures { λ r. ⌜ r ≡ urlOrigin u ⌝ }
-{
-    let h = u.host;
-    let p = u.protocol;
-    Origin {
-        host: h,
-        protocol: p,
-    }
-}
 
 // Nothing is cancelled by it.
 fn fetch(b: Browser, s: Scene, o: Sending, f: Fresh) -> Performed
@@ -63,12 +51,12 @@ pub fn xhr(
 ) -> Performed
     ensures { λ r. ⌜ Performs (xhr (s .document) (first s) url method «data» (Xhr (s .document .number) matching)) b f r ⌝ }
 {
-    if script_sendings::is_forbidden(method) {
+    if request_tests::is_forbidden(method) {
         return draft::refuse(b, Refusal::Stopped);
     }
     let d = s.document;
     let own = walks::origin_of(d);
-    let asked = url_origin(url);
+    let asked = request_tests::url_origin(url);
     if labels::same_origin(asked, own) {
         let n = d.number;
         let o = script_sendings::xhr_sending(d, url, method, data, Reference::Xhr(n, matching));

@@ -97,13 +97,13 @@ eventTerm receiver message = list (cons (numberTerm receiver) (cons (numberTerm 
 -- MESSAGES that go out: a question to the DNS server, a plain request, an encrypted one with its key.
 pub data Message : Type 0 where
   resolve : Host → DnsNumber → Message
-  open′ : Address → Request → Message
+  unsealed : Address → Request → Message
   sealed : Address → KeyNumber → Request → Message
 
 -- the event that carries a message: to the DNS server, which has address 2, or to a host's address
 unfoldable pub eventOf : Message → Term
 eventOf (resolve h n) = eventTerm 2 (questionTerm h n)
-eventOf (open′ a q) = eventTerm (a .0) (requestTerm q)
+eventOf (unsealed a q) = eventTerm (a .0) (requestTerm q)
 eventOf (sealed a k q) = eventTerm (a .0) (sealedTerm k q)
 
 abbrev pub eventText : Option Message → List ℕ
@@ -114,5 +114,5 @@ eventText (some m) = write (eventOf m)
 abbrev pub messageOf : Sent → Request → Option Message
 messageOf Silence q = none
 messageOf (Resolve h n) q = some (resolve h n)
-messageOf (Open a) q = some (open′ a q)
+messageOf (Open a) q = some (unsealed a q)
 messageOf (Sealed a k) q = some (sealed a k q)

@@ -9,7 +9,7 @@ use Rattle.types.specs.declared.refusals.Performed.{Performed}
 use Rattle.tables.specs.Tables.{Table, Tables}
 use Rattle.wim.specs.Program.{Program, made, run}
 use Rattle.wim.specs.View.{rowsOf}
-use Rattle.fresh.proofs.Bringing.{Brings}
+use Rattle.fresh.specs.Brings.{Brings}
 use Rattle.draft.specs.Holds.{Holds}
 use Rattle.performing.specs.Performs.{Performs}
 

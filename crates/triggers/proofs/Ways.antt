@@ -18,7 +18,7 @@ use Rattle.performing.specs.Performs.{Performs}
 use Rattle.performing.proofs.Ways.{refuses, performs-as}
 use Rattle.history.specs.declared.Towards.{Towards}
 use Rattle.history.specs.Directions.{nav}
-use Rattle.history.specs.Navigates.{Navigates}
+use Rattle.history.specs.MovesTowards.{MovesTowards}
 use Rattle.shown_in.specs.declared.Shown.the-variants.{Lacks, Shows}
 use Rattle.shown_in.specs.Shown.{shownAt}
 use Rattle.shown_in.proofs.Ways.{shown-goes}
@@ -28,7 +28,7 @@ module _ (q : Towards) (w : WindowNumber) (b : State) (f : Fresh) (r : Performed
   lacks m e a = refuses _ b f r (Lacking m) (shown-goes w (λ top d. nav q w (λ p. p)) (rowsOf b) (freshLabels f) (Lacks m) e) a
 
   -- nothing is done before it moves
-  pub moves : (top : WindowNumber) (d : Document) (c : Draft) → Shows top d ≡ shownAt w (rowsOf b) → Holds [] (rowsOf b) c → Navigates q w b c f r → Performs (shownIn w (λ d. nav q w (λ p. p))) b f r
+  pub moves : (top : WindowNumber) (d : Document) (c : Draft) → Shows top d ≡ shownAt w (rowsOf b) → Holds [] (rowsOf b) c → MovesTowards q w b c f r → Performs (shownIn w (λ d. nav q w (λ p. p))) b f r
   moves top d c e h n =
       performs-as _ (nav q w (λ p. p)) b f r (shown-goes w (λ top d. nav q w (λ p. p)) (rowsOf b) (freshLabels f) (Shows top d) e)
       (n .performs (λ p. p) [] (rowsOf b) (record { runs = λ p l. refl; brings = λ p k. k }) refl h)

@@ -6,7 +6,6 @@ use mathlib.Core.Option.{Option, none, some}
 use Rattle.types.specs.declared.addresses.Url.{Url}
 use Rattle.types.specs.declared.commands.Target.the-variants.{NewWindow, Existing}
 use Rattle.types.specs.declared.labels.Fresh.{Fresh}
-use Rattle.types.specs.declared.labels.Wants.{Wants}
 use Rattle.types.specs.declared.labels.WindowNumber.{WindowNumber}
 use Rattle.types.specs.declared.refusals.Missing.the-variants.{NoWindow, NoDocument}
 use Rattle.types.specs.declared.refusals.Refusal.the-variants.{Lacking}
@@ -18,41 +17,38 @@ use Rattle.types.specs.declared.rows.Opener.the-variants.{Nobody}
 use Rattle.types.specs.declared.rows.Window.{Window}
 use Rattle.sorted.specs.Table.{put}
 use Rattle.tables.specs.Tables.{windows, documents, Tables, apply}
-use Rattle.tables.specs.Labels.{Label, request, dns}
+use Rattle.tables.specs.Labels.{Label}
 use Rattle.wim.specs.Walks.{windowNumbered, activeDocument}
 use Rattle.wim.specs.Program.{Program, ask, answer, active, isTop, needs, refuseUnless, Outcome, refused, run}
 use Rattle.wim.specs.Sending.{send}
 use Rattle.wim.specs.Script.{newTopWindow}
 use Rattle.wim.specs.Main.{sendingTo, urlbar}
 use Rattle.fresh.specs.Wanted.{kinds, picked}
-use Rattle.fresh.proofs.Bringing.{Brings}
-use Rattle.visiting.proofs.Wanted.{wantsSend, brings-send}
+use Rattle.fresh.specs.Brings.{Brings}
+use Rattle.performing.proofs.Wanted.{wantsSend, wantsOpen, numbersOf, brings-send}
 
 -- INTO A NEW WINDOW.
-abbrev pub wantsOpen : Wants
-wantsOpen = record { window = true; request = true; dns = true; key = false; document = false }
-
 pub brings-new : (url : Url) (f : Fresh) → Brings (kinds (picked wantsOpen f)) (urlbar url NewWindow)
 unfolding urlbar
 brings-new url f = (refl, λ w. brings-send (sendingTo (Req (record { 0 = w })) url Unknown))
 
 ran-new : (url : Url) (f : Fresh) (b : Tables) → run (urlbar url NewWindow) b (picked wantsOpen f)
-    ≡ run (send (sendingTo (Req (f .window)) url Unknown)) (apply windows (put (newTopWindow (f .window) Nobody) ∷ []) b) ((request, f .request .0) ∷ ((dns, f .dns .0) ∷ []))
+    ≡ run (send (sendingTo (Req (f .window)) url Unknown)) (apply windows (put (newTopWindow (f .window) Nobody) ∷ []) b) (numbersOf f)
 unfolding run urlbar
 ran-new url f b = refl
 
 -- the window is put in, and HTTP_SEND goes on from there
 pub new-sends : (url : Url) (f : Fresh) (b : Tables) (row : Window) (o : Sending) → row ≡ newTopWindow (f .window) Nobody → o ≡ sendingTo (Req (f .window)) url Unknown
-    → run (send o) (apply windows (put row ∷ []) b) ((request, f .request .0) ∷ ((dns, f .dns .0) ∷ [])) ≡ run (urlbar url NewWindow) b (picked wantsOpen f)
+    → run (send o) (apply windows (put row ∷ []) b) (numbersOf f) ≡ run (urlbar url NewWindow) b (picked wantsOpen f)
 new-sends url f b row o r s =
-    ap (λ (x : Window). run (send o) (apply windows (put x ∷ []) b) ((request, f .request .0) ∷ ((dns, f .dns .0) ∷ []))) r
-    ∙ ap (λ (y : Sending). run (send y) (apply windows (put (newTopWindow (f .window) Nobody) ∷ []) b) ((request, f .request .0) ∷ ((dns, f .dns .0) ∷ []))) s
+    ap (λ (x : Window). run (send o) (apply windows (put x ∷ []) b) (numbersOf f)) r
+    ∙ ap (λ (y : Sending). run (send y) (apply windows (put (newTopWindow (f .window) Nobody) ∷ []) b) (numbersOf f)) s
     ∙ sym (ran-new url f b)
 
 -- INTO A TOP-LEVEL WINDOW THAT IS THERE, and shows something.
 pub load-sends : (url : Url) (w : WindowNumber) (f : Fresh) (b : Tables) (o : Sending) → o ≡ sendingTo (Req w) url Unknown
-    → run (send o) b ((request, f .request .0) ∷ ((dns, f .dns .0) ∷ [])) ≡ run (send (sendingTo (Req w) url Unknown)) b (picked wantsSend f)
-load-sends url w f b o s = ap (λ (y : Sending). run (send y) b ((request, f .request .0) ∷ ((dns, f .dns .0) ∷ []))) s
+    → run (send o) b (numbersOf f) ≡ run (send (sendingTo (Req w) url Unknown)) b (picked wantsSend f)
+load-sends url w f b o s = ap (λ (y : Sending). run (send y) b (numbersOf f)) s
 
 module _ (url : Url) (w : WindowNumber) (b : Tables) (f : List Label) where
   abbrev onward : Option Document → Program

@@ -8,7 +8,7 @@ use lib.ListN.{take}
 use Rattle.sorted.specs.Table.{Edit, put, drop, sift}
 use Rattle.tables.specs.Tables.{windows, documents, cookies, sessionStorage, inputs, pendingDNS, pendingRequests, keyOf}
 use Rattle.tables.specs.Labels.{window, key}
-use Rattle.shapes.specs.Events.{open′, sealed}
+use Rattle.shapes.specs.Events.{unsealed, sealed}
 use Rattle.tables.specs.Rows.{sameHost}
 use Rattle.wim.specs.Nouns.{WindowNumber, KeyNumber, Host, Address, Protocol, Plain, Secure, Url, Cookie, SetCookies, Get, Unsent, Referrer, Unknown, Unset, Reference, Req, Bare, Sending, Seal, Keyless, Keyed, Target, NewWindow, Existing, Answer, DnsAnswer, Event, RunScript, Urlbar, Reload, GoForward, GoBack, CloseCorrupt, EncryptedAnswer, PlainAnswer, DnsResolved, Item, Nobody, Window, Document, HostCookie, SessionValue, Input, Question, Waiting, NoWindow, NoDocument, NoQuestion, NoRequest, Mismatch}
 use Rattle.wim.specs.Program.{Program, ask, edit, bring, done, reached, topLevel, active, question, keyless, keyed, needs, refuseUnless, _>>=_, _>>_}
@@ -101,7 +101,7 @@ unfoldable pub goOut : Protocol → Question → Address → Program
 goOut Plain q address = do
   edit pendingRequests (put (waitingOf q Keyless address) ∷ [])  -- 72
   edit pendingDNS (drop (keyOf pendingDNS q) ∷ [])  -- 73
-  done (some (open′ address (q .request)))  -- 74
+  done (some (unsealed address (q .request)))  -- 74
 goOut Secure q address = do
   k ← bring key
   edit pendingRequests (put (waitingOf q (Keyed (record { 0 = k })) address) ∷ [])  -- 69

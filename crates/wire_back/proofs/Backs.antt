@@ -14,7 +14,7 @@ use Rattle.csexp_write.specs.Encode.{numberTerm, labelled, joins}
 use Rattle.csexp_write.proofs.Backs.{Gives, Holds, Denies, in-list, then-one, at-end, first-of, second-of, by-maps, no-maps, no-list, is-vacant, is-filled, is-there, is-other, is-last, is-word, is-means, no-means, no-begin, is-number, no-number, is-labelled, is-optional, all-back}
 use Rattle.shapes.specs.Nouns.{Protocol, Plain, Secure, Fragment, Absent, Named, Url, Origin, CookieName, Pair, Jar, Method, Get, Head, Post, Put, Delete, Connect, Options, Trace, OriginHeader, Unsent, Null, From, Referrer, Unknown, Known, Request}
 use Rattle.shapes.specs.Items.{protocolOf, fragmentOf, urlOf, originOf, nameOf, methodOf, headerOf}
-use Rattle.shapes.specs.Events.{protocolTerm, fragmentTerm, urlTerm, methodTerm, nameTerm, pairTerm, originTerm, originHeader, refererHeader, headersTerm, requestTerm, Message, resolve, open′, sealed, eventOf}
+use Rattle.shapes.specs.Events.{protocolTerm, fragmentTerm, urlTerm, methodTerm, nameTerm, pairTerm, originTerm, originHeader, refererHeader, headersTerm, requestTerm, Message, resolve, unsealed, sealed, eventOf}
 use Rattle.wire_back.specs.Outgoing.{pairOf, jar, originHeaderOf, Carried, behindCookie, headersOf, requestOf, sentOf, whole, sentIn}
 use Rattle.wire_back.specs.Within.{In, FragmentIn, UrlIn, PairIn, OriginIn, ReferrerIn, pairs, RequestIn, MessageIn}
 
@@ -162,7 +162,7 @@ sent-back (resolve h n) i =
     (then-one _ (is-labelled _ _ _ _ (i .1 .low) (i .1 .high))
     at-end))))))
     at-end)))
-sent-back (open′ a q) i =
+sent-back (unsealed a q) i =
     in-list
     (then-one _ (is-number _ _ _ (i .0 .low) (i .0 .high))
     (then-one _ (is-number _ _ 1 (omega arith) (omega arith))

@@ -13,7 +13,7 @@ use Rattle.csexp.specs.Decode.{Decoder, Fields, inside, one, end, upTo, perhaps
 use Rattle.shapes.specs.Nouns.{Host, Address, DnsNumber, KeyNumber, Pair, Jar, OriginHeader, Unsent, Null, From, Referrer, Unknown, Known, Request}
 use Rattle.shapes.specs.Words.{most16, most32}
 use Rattle.shapes.specs.Items.{urlOf, originOf, nameOf, methodOf, headerOf}
-use Rattle.shapes.specs.Events.{Message, resolve, open′, sealed}
+use Rattle.shapes.specs.Events.{Message, resolve, unsealed, sealed}
 
 -- (name value)
 abbrev pub pairOf : Decoder Pair
@@ -99,7 +99,7 @@ questionOf =
 -- a message to the address a: questions go to the DNS server alone
 abbrev pub messageTo : ℕ → Decoder Message
 messageTo a =
-    either (maps (open′ (record { 0 = a })) requestOf)
+    either (maps (unsealed (record { 0 = a })) requestOf)
     (either (sealedOf a)
     (cond (eqb a 2) questionOf (λ _. none)))
 

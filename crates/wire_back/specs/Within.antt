@@ -6,7 +6,7 @@ use lib.ListN.{length, take}
 use Rattle.csexp_write.proofs.Backs.{Each}
 use Rattle.shapes.specs.Nouns.{Fragment, Absent, Named, Url, Pair, OriginHeader, Unsent, Null, From, Referrer, Unknown, Known, Request}
 use Rattle.shapes.specs.Words.{most16, most32}
-use Rattle.shapes.specs.Events.{Message, resolve, open′, sealed}
+use Rattle.shapes.specs.Events.{Message, resolve, unsealed, sealed}
 use Rattle.wire_back.specs.Outgoing.{jar}
 
 pub record In (lo hi n : ℕ) : Type 0 where
@@ -54,5 +54,5 @@ pub record RequestIn (q : Request) : Type 0 where
 
 abbrev pub MessageIn : Message → Type 0
 MessageIn (resolve h n) = In 1 most16 (h .0) × In 1 most32 (n .0)
-MessageIn (open′ a q) = In 1 most16 (a .0) × RequestIn q
+MessageIn (unsealed a q) = In 1 most16 (a .0) × RequestIn q
 MessageIn (sealed a k q) = In 1 most16 (a .0) × (In 1 most32 (k .0) × RequestIn q)

@@ -10,7 +10,7 @@ use Rattle.csexp.specs.Term.{decimal, digits, write}
 use Rattle.csexp_write.specs.Encode.{numberTerm, labelled}
 use Rattle.csexp_write.proofs.Bounds.{Short, Shorts, short-list, short-nil, short-cons, short-joins, short-less, shorts-less, short-word, short-number, short-optional, short-labelled, short-each}
 use Rattle.shapes.specs.Nouns.{Host, Address, DnsNumber, KeyNumber, Protocol, Plain, Secure, Fragment, Absent, Named, Url, Origin, CookieName, Pair, Method, Get, Head, Post, Put, Delete, Connect, Options, Trace, OriginHeader, Unsent, Null, From, Referrer, Unknown, Known, Request}
-use Rattle.shapes.specs.Events.{protocolTerm, fragmentTerm, urlTerm, methodTerm, nameTerm, pairTerm, cookieHeader, originTerm, originHeader, refererHeader, requestTerm, sealedTerm, questionTerm, eventTerm, Message, resolve, open′, sealed, eventOf, eventText}
+use Rattle.shapes.specs.Events.{protocolTerm, fragmentTerm, urlTerm, methodTerm, nameTerm, pairTerm, cookieHeader, originTerm, originHeader, refererHeader, requestTerm, sealedTerm, questionTerm, eventTerm, Message, resolve, unsealed, sealed, eventOf, eventText}
 use Rattle.writing.specs.Sized.{Small, FragmentSmall, UrlSmall, PairSmall, OriginSmall, ReferrerSmall, RequestSmall, MessageSmall, AnySmall}
 
 short-protocol : (p : Protocol) → Short (protocolTerm p) 3
@@ -110,7 +110,7 @@ pub short-event : (m : Message) → MessageSmall m → length (write (eventOf m)
 unfolding eventOf
 short-event (resolve h n) i =
     let l = (short-list (short-cons (short-number {n = 2} (omega arith)) (short-cons (short-number {n = 1} (omega arith)) (short-cons (short-question h n (i .0) (i .1)) short-nil)))) .is in omega arith
-short-event (open′ a q) i =
+short-event (unsealed a q) i =
     let l = (short-list (short-cons (short-number (i .0)) (short-cons (short-number {n = 1} (omega arith)) (short-cons (short-request q (i .1)) short-nil)))) .is in omega arith
 short-event (sealed a k q) i =
     let l = (short-list (short-cons (short-number (i .0)) (short-cons (short-number {n = 1} (omega arith)) (short-cons (short-sealed k q (i .1 .0) (i .1 .1)) short-nil)))) .is in omega arith

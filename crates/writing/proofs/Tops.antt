@@ -17,7 +17,7 @@ use Rattle.csexp_write.specs.declared.Written.{Written}
 use Rattle.csexp_write.specs.declared.Written.the-variants.{Bytes}
 use Rattle.csexp_write.specs.Puts.{over, Puts}
 use Rattle.csexp_write.specs.Sent.{Sent}
-use Rattle.shapes.specs.Events.{Message, resolve, open′, sealed, eventOf, eventText}
+use Rattle.shapes.specs.Events.{Message, resolve, unsealed, sealed, eventOf, eventText}
 use Rattle.writing.specs.Wrote.{Long, Wrote}
 
 pub counted : {m : Option Message} {s s₂ : List ℕ} {n : ℕ} → length (eventText m) ≤ 4096 → Puts (eventText m) s 0 s₂ n → Long m n
@@ -31,7 +31,7 @@ counts l = record { bytes = λ _. refl; next = let a = l .is in let b = l .short
 some-bytes : (m : Message) → 0 < length (write (eventOf m))
 unfolding write eventOf
 some-bytes (resolve h n) = omega arith
-some-bytes (open′ a q) = omega arith
+some-bytes (unsealed a q) = omega arith
 some-bytes (sealed a k q) = omega arith
 
 pub wrote-none : (m : Option Message) (s : List ℕ) (place : ℕ) {n : ℕ} → Long m n → n ≡ 0 → Wrote m s place s (Bytes 0)

@@ -6,7 +6,7 @@ use lib.ListN.{length, take}
 use Rattle.csexp_write.proofs.Backs.{Each}
 use Rattle.shapes.specs.Nouns.{Fragment, Absent, Named, Url, Pair, OriginHeader, Unsent, Null, From, Referrer, Unknown, Known, Request}
 use Rattle.shapes.specs.Words.{most32}
-use Rattle.shapes.specs.Events.{Message, resolve, open′, sealed}
+use Rattle.shapes.specs.Events.{Message, resolve, unsealed, sealed}
 
 abbrev pub Small : ℕ → Type 0
 Small n = n ≤ most32
@@ -47,7 +47,7 @@ pub record RequestSmall (q : Request) : Type 0 where
 
 abbrev pub MessageSmall : Message → Type 0
 MessageSmall (resolve h n) = Small (h .0) × Small (n .0)
-MessageSmall (open′ a q) = Small (a .0) × RequestSmall q
+MessageSmall (unsealed a q) = Small (a .0) × RequestSmall q
 MessageSmall (sealed a k q) = Small (a .0) × (Small (k .0) × RequestSmall q)
 
 abbrev pub AnySmall : Option Message → Type 0

@@ -11,17 +11,11 @@ use Rattle.types.specs.declared.rows.News.the-variants.{Answered}
 use Rattle.types.specs.declared.rows.Waiting.{Waiting}
 use Rattle.sorted.specs.Table.{put}
 use Rattle.tables.specs.Tables.{inputs, Tables, apply}
-use Rattle.tables.specs.Labels.{Label}
-use Rattle.wim.specs.Program.{Query, Answer as Told, answer, Program, ask, made, run}
+use Rattle.wim.specs.Program.{answer, made, run}
 use Rattle.wim.specs.Response.{answerScript}
-use Rattle.fresh.proofs.Bringing.{Brings}
+use Rattle.fresh.specs.Brings.{Brings}
 use Rattle.headers.specs.Acted.{acted}
 use Rattle.filing.specs.Next.{nextInput}
-
--- a program that asks goes on with the answer
-pub asked : (q : Query) (k : Told q → Program) (b : Tables) (f : List Label) (o : Told q) → o ≡ answer q b → run (ask q k) b f ≡ run (k o) b f
-unfolding run
-asked q k b f o e = ap (λ (x : Told q). run (k x) b f) (sym e)
 
 module _ (w : Waiting) (a : Answer) (new : List Cookie) (matching : Matching) where
   pub brings-filed : (d : Document) → Brings [] (answerScript w a new matching none (some d))

@@ -8,8 +8,7 @@ use Rattle.wim.specs.Step.{freshLabels}
 use Rattle.wim.specs.Main.{encryptedAnswer}
 use Rattle.wim.specs.View.{rowsOf}
 use Rattle.walks.proofs.Looked.{looked-yes, looked-no}
-use Rattle.performing.proofs.Ways.{performs-as, refuses}
-use Rattle.xhr_answers.proofs.Ways.{asked}
+use Rattle.performing.proofs.Ways.{performs-as, refuses, asked}
 use Rattle.answers.proofs.encrypted_answer.Statement.{statement}
 use Rattle.answers.proofs.encrypted_answer.Tie as tie
 

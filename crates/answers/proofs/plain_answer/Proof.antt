@@ -8,8 +8,7 @@ use Rattle.wim.specs.Step.{freshLabels}
 use Rattle.wim.specs.Main.{plainAnswer}
 use Rattle.wim.specs.View.{rowsOf}
 use Rattle.walks.proofs.Looked.{looked-yes, looked-no}
-use Rattle.performing.proofs.Ways.{performs-as, refuses}
-use Rattle.xhr_answers.proofs.Ways.{asked}
+use Rattle.performing.proofs.Ways.{performs-as, refuses, asked}
 use Rattle.answers.proofs.plain_answer.Statement.{statement}
 use Rattle.answers.proofs.plain_answer.Tie as tie
 

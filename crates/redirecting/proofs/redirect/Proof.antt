@@ -10,7 +10,8 @@ use Rattle.wim.specs.View.{rowsOf}
 use Rattle.draft.specs.Gives.{Answers}
 use Rattle.performing.proofs.Ways.{goes-on, stales}
 use Rattle.headers.specs.Acted.{acted}
-use Rattle.redirecting.proofs.Ways.{wantsSend, redirected, brings-redirect, redirects}
+use Rattle.performing.proofs.Wanted.{wantsSend}
+use Rattle.redirecting.proofs.Ways.{redirected, brings-redirect, redirects}
 use Rattle.redirecting.proofs.redirect.Statement.{statement}
 use Rattle.redirecting.proofs.redirect.Tie as tie
 

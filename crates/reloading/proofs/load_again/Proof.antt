@@ -9,7 +9,7 @@ use Rattle.wim.specs.View.{rowsOf}
 use Rattle.draft.specs.Gives.{Answers}
 use Rattle.dropping.specs.Effects.{cancelled}
 use Rattle.performing.proofs.Ways.{goes-on, stales}
-use Rattle.visiting.proofs.Wanted.{wantsSend}
+use Rattle.performing.proofs.Wanted.{wantsSend}
 use Rattle.reloading.specs.Again.{again}
 use Rattle.reloading.proofs.Ways.{brings-again, again-sends}
 use Rattle.reloading.proofs.load_again.Statement.{statement}

@@ -6,8 +6,7 @@ use Rattle.wim.specs.Step.{freshLabels}
 use Rattle.wim.specs.Response.{answerReached}
 use Rattle.wim.specs.View.{rowsOf}
 use Rattle.walks.proofs.Looked.{looked-yes, looked-no}
-use Rattle.performing.proofs.Ways.{performs-as}
-use Rattle.xhr_answers.proofs.Ways.{asked}
+use Rattle.performing.proofs.Ways.{performs-as, asked}
 use Rattle.responses.proofs.answer_reached.Statement.{statement}
 use Rattle.responses.proofs.answer_reached.Tie as tie
 

@@ -6,7 +6,8 @@ use Rattle.wim.specs.Script.{iframeIn}
 use Rattle.wim.specs.View.{rowsOf}
 use Rattle.scene.specs.Stored.{first, stored}
 use Rattle.performing.proofs.Ways.{stales}
-use Rattle.script_sendings.proofs.Ways.{wantsOpen, sends-on}
+use Rattle.performing.proofs.Wanted.{wantsOpen}
+use Rattle.script_sendings.proofs.Ways.{sends-on}
 use Rattle.script_frames.proofs.Ways.{hung, brings-frame, frame-sends}
 use Rattle.script_frames.proofs.hang.Statement.{statement}
 use Rattle.script_frames.proofs.hang.Tie as tie

@@ -5,7 +5,8 @@ use Rattle.tables.specs.Tables.{cookies, localStorage, sessionStorage}
 use Rattle.wim.specs.View.{rowsOf}
 use Rattle.scene.specs.Stored.{first, stored}
 use Rattle.performing.proofs.Ways.{stales}
-use Rattle.script_sendings.proofs.Ways.{wantsSend, sends-on}
+use Rattle.performing.proofs.Wanted.{wantsSend}
+use Rattle.script_sendings.proofs.Ways.{sends-on}
 use Rattle.script_navigation.specs.Navigation.{intoExisting}
 use Rattle.script_navigation.proofs.Ways.{brings-existing, existing-sends, cleared}
 use Rattle.script_navigation.proofs.navigate_existing.Statement.{statement}

@@ -6,7 +6,8 @@ use Rattle.sorted.specs.Table.{put}
 use Rattle.wim.specs.View.{rowsOf}
 use Rattle.scene.specs.Stored.{first, stored}
 use Rattle.performing.proofs.Ways.{stales}
-use Rattle.script_sendings.proofs.Ways.{wantsOpen, sends-on}
+use Rattle.performing.proofs.Wanted.{wantsOpen}
+use Rattle.script_sendings.proofs.Ways.{sends-on}
 use Rattle.script_navigation.specs.Navigation.{intoNew}
 use Rattle.script_navigation.proofs.Ways.{brings-new, new-sends, opened}
 use Rattle.script_navigation.proofs.navigate_new.Statement.{statement}

@@ -16,10 +16,10 @@ use Rattle.script_words.proofs.set_script.Tie as tie
 
 returns : tie.Need-returns
 returns c =
-    let a = c .before .before .before .before .before .args in
-    let n = c .before .chosen .result in
-    performs-as (setting (a .s .document) (first (a .s)) (a .x) (withScript (a .v))) (first (a .s) (revise documents (changes (SetScript n (a .v))) (done none))) (a .b) (a .f) _
-    (sets (a .s) (a .x) (withScript (a .v)) n (rowsOf (a .b)) (freshLabels (a .f)) (c .before .chosen .ensures)) (c .revised .ensures)
+    let a = c .before .before .before .before .before .before .args in
+    let e = c .before .before .get-window in
+    performs-as (setting (a .s .document) (first (a .s)) (a .x) (withScript (a .v))) (first (a .s) (revise documents (changes (SetScript (e .result .number) (a .v))) (done none))) (a .b) (a .f) _
+    (sets (a .s) (a .x) (withScript (a .v)) (e .result) (rowsOf (a .b)) (freshLabels (a .f)) (e .ensures)) (c .revised .ensures)
 
 pub set-script-spec : {M : Type 1} → statement M
 set-script-spec = tie.close (tie.spec (λ c κs. tt) (λ c κs. tt) returns)

@@ -6,7 +6,8 @@ use Rattle.wim.specs.Sending.{send}
 use Rattle.wim.specs.View.{rowsOf}
 use Rattle.scene.specs.Stored.{first, stored}
 use Rattle.performing.proofs.Ways.{stales}
-use Rattle.script_sendings.proofs.Ways.{wantsSend, sends-on}
+use Rattle.performing.proofs.Wanted.{wantsSend}
+use Rattle.script_sendings.proofs.Ways.{sends-on}
 use Rattle.script_xhr.proofs.Ways.{brings-fetch, fetch-sends}
 use Rattle.script_xhr.proofs.fetch.Statement.{statement}
 use Rattle.script_xhr.proofs.fetch.Tie as tie

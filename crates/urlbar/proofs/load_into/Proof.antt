@@ -11,7 +11,7 @@ use Rattle.wim.specs.Step.{fitted, concluded}
 use Rattle.wim.specs.View.{rowsOf}
 use Rattle.draft.specs.Gives.{Answers}
 use Rattle.performing.proofs.Ways.{goes-on, stales}
-use Rattle.visiting.proofs.Wanted.{wantsSend, brings-send}
+use Rattle.performing.proofs.Wanted.{wantsSend, brings-send}
 use Rattle.urlbar.proofs.Ways.{load-sends}
 use Rattle.urlbar.proofs.load_into.Statement.{statement}
 use Rattle.urlbar.proofs.load_into.Tie as tie

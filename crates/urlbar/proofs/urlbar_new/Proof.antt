@@ -11,7 +11,8 @@ use Rattle.wim.specs.Main.{urlbar}
 use Rattle.wim.specs.View.{rowsOf}
 use Rattle.draft.specs.Gives.{Answers}
 use Rattle.performing.proofs.Ways.{goes-on, stales}
-use Rattle.urlbar.proofs.Ways.{wantsOpen, brings-new, new-sends}
+use Rattle.performing.proofs.Wanted.{wantsOpen}
+use Rattle.urlbar.proofs.Ways.{brings-new, new-sends}
 use Rattle.urlbar.proofs.urlbar_new.Statement.{statement}
 use Rattle.urlbar.proofs.urlbar_new.Tie as tie
 

@@ -9,9 +9,8 @@ use Rattle.wim.specs.Step.{freshLabels}
 use Rattle.wim.specs.Response.{actOnHeaders, answerScript}
 use Rattle.wim.specs.View.{rowsOf}
 use Rattle.performing.specs.Performs.{Performs}
-use Rattle.performing.proofs.Ways.{performs-as}
+use Rattle.performing.proofs.Ways.{performs-as, asked}
 use Rattle.xhr_answers.specs.Toward.{toward}
-use Rattle.xhr_answers.proofs.Ways.{asked}
 use Rattle.xhr_answers.proofs.answer_script.Statement.{statement}
 use Rattle.xhr_answers.proofs.answer_script.Tie as tie
 

@@ -6,8 +6,7 @@ use Rattle.wim.specs.Step.{freshLabels}
 use Rattle.wim.specs.Response.{answerScript}
 use Rattle.wim.specs.View.{rowsOf}
 use Rattle.walks.proofs.Looked.{looked-yes, looked-no}
-use Rattle.performing.proofs.Ways.{performs-as}
-use Rattle.xhr_answers.proofs.Ways.{asked}
+use Rattle.performing.proofs.Ways.{performs-as, asked}
 use Rattle.xhr_answers.proofs.hear.Statement.{statement}
 use Rattle.xhr_answers.proofs.hear.Tie as tie
 

@@ -1,8 +1,8 @@
 -- What was found, otherwise the script's own.
 use lib.ListN.{take}
-use Rattle.script_frames.proofs.Ways.{found-one, found-none}
-use Rattle.script_frames.proofs.get_window.Statement.{statement}
-use Rattle.script_frames.proofs.get_window.Tie as tie
+use Rattle.scene.proofs.Getting.{found-one, found-none}
+use Rattle.scene.proofs.get_window.Statement.{statement}
+use Rattle.scene.proofs.get_window.Tie as tie
 
 returns : tie.Need-returns
 returns c =

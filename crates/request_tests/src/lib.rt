@@ -1,7 +1,9 @@
-// Methods: which a command takes, and which carry their data in the body.
+// What redirects and scripts ask of a request: which methods a command takes, which carry their data in the body, and whose an address is.
+use types::addresses::Origin;
+use types::addresses::Url;
 use types::requests::Method;
 ghost use mathlib.Core.Path.{_≡_};
-ghost use Rattle.wim.specs.Script.{isFormMethod, isGet, isForbidden, isGetOrHead};
+ghost use Rattle.wim.specs.Script.{isFormMethod, isGet, isForbidden, isGetOrHead, urlOrigin};
 
 // A7:37
 pub fn is_form_method(m: Method) -> bool
@@ -51,7 +53,7 @@ pub fn is_forbidden(m: Method) -> bool
     }
 }
 
-// A7:65
+// A7:65, A8:21
 pub fn is_get_or_head(m: Method) -> bool
     ensures { λ r. ⌜ r ≡ isGetOrHead m ⌝ }
 {
@@ -64,5 +66,16 @@ pub fn is_get_or_head(m: Method) -> bool
         Method::Connect => false,
         Method::Options => false,
         Method::Trace => false,
+    }
+}
+
+pub fn url_origin(u: Url) -> Origin
+    ensures { λ r. ⌜ r ≡ urlOrigin u ⌝ }
+{
+    let h = u.host;
+    let p = u.protocol;
+    Origin {
+        host: h,
+        protocol: p,
     }
 }

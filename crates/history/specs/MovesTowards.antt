@@ -11,7 +11,7 @@ use Rattle.tables.specs.Tables.{Table, pendingDNS, pendingRequests, Tables}
 use Rattle.tables.specs.Labels.{Label}
 use Rattle.wim.specs.Program.{Program, run}
 use Rattle.wim.specs.View.{rowsOf}
-use Rattle.fresh.proofs.Bringing.{Brings}
+use Rattle.fresh.specs.Brings.{Brings}
 use Rattle.draft.specs.Holds.{Holds, apart}
 use Rattle.performing.specs.Performs.{Performs}
 use Rattle.history.specs.declared.Towards.{Towards}
@@ -22,5 +22,5 @@ pub record Leaves (first : Program → Program) (b v : Tables) : Type 0 where
   pub runs : (p : Program) (f : List Label) → run (first p) b f ≡ run p v f
   pub brings : (p : Program) → Brings [] p → Brings [] (first p)
 
-pub record Navigates (q : Towards) (w : WindowNumber) (b : State) (d : Draft) (f : Fresh) (r : Performed) : Type 0 where
+pub record MovesTowards (q : Towards) (w : WindowNumber) (b : State) (d : Draft) (f : Fresh) (r : Performed) : Type 0 where
   pub performs : (first : Program → Program) (ts : List Table) (v : Tables) → Leaves first (rowsOf b) v → apart (pendingRequests ∷ pendingDNS ∷ []) ts ≡ true → Holds ts v d → Performs (nav q w first) b f r

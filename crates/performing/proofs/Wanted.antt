@@ -1,0 +1,23 @@
+-- HTTP_SEND refuses nothing, and takes a request's number and a DNS question's; a step that opens a window takes the window's before them.
+use mathlib.Core.Path.{refl}
+use mathlib.Core.Bool.{true, false}
+use mathlib.Core.List.{List, [], _∷_}
+use Rattle.types.specs.declared.labels.Fresh.{Fresh}
+use Rattle.types.specs.declared.labels.Wants.{Wants}
+use Rattle.types.specs.declared.requests.Sending.{Sending}
+use Rattle.tables.specs.Labels.{request, dns, Label}
+use Rattle.wim.specs.Sending.{send}
+use Rattle.fresh.specs.Brings.{Brings}
+
+abbrev pub wantsSend : Wants
+wantsSend = record { window = false; request = true; dns = true; key = false; document = false }
+
+abbrev pub wantsOpen : Wants
+wantsOpen = record { window = true; request = true; dns = true; key = false; document = false }
+
+abbrev pub numbersOf : Fresh → List Label
+numbersOf f = (request, f .request .0) ∷ ((dns, f .dns .0) ∷ [])
+
+pub brings-send : (o : Sending) → Brings (request ∷ (dns ∷ [])) (send o)
+unfolding send
+brings-send o = λ sts chosen. (refl, λ q. (refl, λ n. tt))

@@ -1,2 +1,0 @@
--- The numbers that HTTP_SEND takes.
-pub mod Wanted
