@@ -27,13 +27,16 @@ CITES = {
     'Rattle.tables.specs.View': ['labelOf'],
 }
 
-# What a check must refuse: the three of every table at the three smallest, one of them at the others; and one for each further function.
-EVERY = ['keep_stores_where_it_reads', 'first_denies_the_row', 'put_counts_two']
-WITHOUT = {'without_stores_where_it_reads': ('            u.rows[k] = row;', '            u.rows[i] = row;')}
+# What a check must refuse, beside the edits of every table: two for each further function.
+WITHOUT = {
+    'without_stores_where_it_reads': ('            u.rows[k] = row;', '            u.rows[i] = row;'),
+    'without_counts_those_that_go': ('    u.count = k;', '    u.count = n;'),
+}
 
 
-def unclean(old):
-    return {'mentioned_compares_the_label_with_itself': (old, re.sub(r'labels::same\(l, .*?\)\)', 'labels::same(l, l)', old))}
+def unclean(old, **forgotten):
+    """The wrong answers of `clean`: a label that is compared with itself in the line `old`, and what is forgotten."""
+    return {'mentioned_compares_the_label_with_itself': (old, re.sub(r'labels::same\(l, .*?\)\)', 'labels::same(l, l)', old))} | forgotten
 
 
 def asks(name, params, meaning, code, proof=None):
@@ -296,28 +299,40 @@ sts = table('sts', 'sts', 'StrictHost', 'Sts', [part('host', 'Host')], 'StrictHo
 
 # ---------------------------------------------------------------- edits that a check must refuse
 
-windows.refused = EVERY
-windows.edits = WITHOUT | unclean('        labels::same(l, Label::OfWindow(n)),')
-documents.refused = EVERY[:1]
-documents.edits = WITHOUT | unclean('        labels::same(l, Label::OfWindow(w)),') | {
+windows.edits = WITHOUT | unclean('        labels::same(l, Label::OfWindow(n)),',
+                                  an_opener_is_forgotten=('    let o = row.opener;', '    let o = Opener::Nobody;'),
+                                  a_parent_is_forgotten=('    let p = row.parent;', '    let p = Parent::Top;'))
+documents.edits = WITHOUT | unclean('        labels::same(l, Label::OfWindow(w)),',
+                                    a_document_is_forgotten=('        labels::same(l, Label::OfDocument(n)),', '        labels::same(l, Label::OfWindow(w)),')) | {
+    'empty_holds_a_row': ('    let row = blank();', '    let row = blank(); return Documents { rows: [row; DOCUMENTS], count: 1 };'),
+    'empty_counts_its_blank_rows': ('    let row = blank();', '    let row = blank(); return Documents { rows: [row; DOCUMENTS], count: DOCUMENTS };'),
     'numbers_counts_every_place': ('    out.count = i;', '    out.count = 64;'),
+    'numbers_are_those_of_the_windows': ('        let v = row.number;', '        let v = DocumentNumber(row.window.0);'),
     'revise_only_ever_sets_active': ('        Change::SetActive(w, place, a) => set_active(row, w, place, a),',
                                      '        Change::SetActive(w, place, a) => set_active(row, w, place, true),'),
+    'revise_sets_other_windows_active': ('    if sorted::both(row.window.0 == w.0, row.place == place) {', '    if sorted::both(row.window.0 <= w.0, row.place == place) {'),
+    'a_place_is_later_than_itself': ('    place < row.place', '    place <= row.place'),
+    'up_to_a_place_without_it': ('    row.place <= place', '    row.place < place'),
 }
-cookies.refused = EVERY[1:2]
 cookies.edits = {
     'sent_to_leaves_gaps': ('            out.rows[j] = v;', '            out.rows[i] = v;'),
+    'sent_to_sends_secure_over_plain': ('    let over = labels::goes_over(p, c);', '    let over = labels::goes_over(Protocol::Secure, c);'),
+    'sent_to_sends_another_hosts': ('    row.host.0 == h.0', '    row.host.0 <= h.0'),
     'put_all_forgets_those_before': ('        let o = put(u, row);', '        let o = put(t, row);'),
+    'put_all_forgets_the_fourth': ('    let n = sorted::used(few.count, 4);', '    let n = sorted::used(few.count, 3);'),
+    'a_session_cookie_lasts': ('    sorted::not(row.cookie.session)', '    sorted::not(row.cookie.secure)'),
 }
-local_storage.refused = EVERY
-session_storage.refused = EVERY[2:]
-session_storage.edits = unclean('    labels::same(l, Label::OfWindow(top))')
-inputs.refused = EVERY[:1]
-inputs.edits = WITHOUT | unclean('    sorted::either(labels::same(l, Label::OfDocument(d)), labels::in_news(l, n))')
-pending_dns.refused = EVERY[1:2]
-pending_dns.edits = unclean('        labels::same(l, Label::OfDns(n)),')
-pending_requests.refused = EVERY[2:]
-pending_requests.edits = unclean('        labels::same(l, Label::OfRequest(n)),')
-sts.refused = EVERY
+session_storage.edits = unclean('    labels::same(l, Label::OfWindow(top))',
+                                a_session_row_is_forgotten=('    labels::same(l, Label::OfWindow(top))', '    labels::same(l, Label::OfWindow(WindowNumber(0)))'))
+inputs.edits = WITHOUT | unclean('    sorted::either(labels::same(l, Label::OfDocument(d)), labels::in_news(l, n))',
+                                 a_sender_is_forgotten=('    let n = row.news;', '    let n = News::Answered(Matching::Unmatched, Body::Number(0));'))
+pending_dns.edits = unclean('        labels::same(l, Label::OfDns(n)),',
+                            a_request_is_forgotten=('            labels::same(l, Label::OfRequest(q)),', '            labels::same(l, Label::OfDns(n)),'),
+                            a_reference_is_forgotten=('    let p = row.reference;', '    let p = Reference::Req(WindowNumber(0));'))
+pending_requests.edits = unclean('        labels::same(l, Label::OfRequest(n)),',
+                                 a_key_is_forgotten=('    let k = row.seal;', '    let k = Seal::Keyless;'),
+                                 a_reference_is_forgotten=('    let p = row.reference;', '    let p = Reference::Req(WindowNumber(0));')) | {
+    'any_number_finds_a_keyless_request': ('    sorted::both(row.request.number.0 == n.0, open)', '    sorted::both(row.request.number.0 <= n.0, open)'),
+}
 
 TABLES = [windows, documents, cookies, local_storage, session_storage, inputs, pending_dns, pending_requests, sts]

@@ -8,7 +8,7 @@ where none is given). For each table the folder CRATE is written:
 
     src/lib.rt               Which, Found, Offer; empty, size, first, keep, put; the functions of the description
     specs/Lib.antt Which.antt    what the tests of Which mean, and what else the contracts cite
-    must-fail/more/          the edits that the description names
+    must-fail/more/          EDITS, and the edits that the description names
     proofs/F/Proof.antt      one for each function that Rattle does not prove by itself
 
 What is written is committed and read like any other code; it is written anew when a description changes. A folder of
@@ -30,11 +30,13 @@ A table in the code is a struct { rows: [Row; CAPACITY], count: usize }. A descr
     uses        further types of the code, as paths. Of these, and of `cites`, only names that occur are written
     cites       {module: names}: what the meanings and contracts cite
     about       the first line of src/lib.rt, without its full stop
-    refused     names of EDITS that are written to must-fail/more/ (tools/edits.py tries them), and further edits {name: (old, new)}
+    edits       {name: (old, new)}, beside EDITS, which are for every table: two wrong answers for each public function. They are written to
+                must-fail/more/ (tools/edits.py tries them), but for those that the gate tries already
 
 Each proof cites one loop law of `sorted` (proofs/Seek, Open, First, Keep, Revising, Collect, Putting) or is one rewriting.
 In a proof `c^5` is written for c and five times `.before`.
 """
+import glob
 import importlib.util
 import os
 import re
@@ -117,7 +119,6 @@ class Table:
     uses: list = field(default_factory=list)
     cites: dict = field(default_factory=dict)
     about: str = None
-    refused: list = field(default_factory=list)
     edits: dict = field(default_factory=dict)
 
 
@@ -468,10 +469,18 @@ abbrev μ-loop : tie.MeasureT-loop
 }
 
 
-# Edits of src/lib.rt that a check must refuse: the same operations, and a fact that no longer holds.
+# Edits of src/lib.rt that a check must refuse: the same operations, and a fact that no longer holds. Two for each function of every table.
 EDITS = {
-    'keep_stores_where_it_reads': ('            u.rows[j] = row;', '            u.rows[i] = row;'),
+    'empty_holds_a_row': ('        count: 0,', '        count: 1,'),
+    'empty_counts_its_blank_rows': ('        count: 0,', '        count: @CAPACITY@,'),
+    'size_believes_the_count': ('    sorted::used(t.count, @CAPACITY@)', '    sorted::used(t.count, t.count)'),
+    'size_counts_every_place': ('    sorted::used(t.count, @CAPACITY@)', '    sorted::used(@CAPACITY@, @CAPACITY@)'),
     'first_denies_the_row': ('                found: true,', '                found: false,'),
+    'first_finds_where_none_passes': ('        found: false,', '        found: true,'),
+    'keep_stores_where_it_reads': ('            u.rows[j] = row;', '            u.rows[i] = row;'),
+    'keep_counts_those_that_go': ('    u.count = j;', '    u.count = n;'),
+    'put_takes_one_row_too_many': ('    if n < @CAPACITY@ {', '    if n <= @CAPACITY@ {'),
+    'put_loses_a_last_row': ('        hit: false,', '        hit: true,'),
     'put_counts_two': ('        u.count = n + 1;', '        u.count = n + 2;'),
 }
 
@@ -868,8 +877,12 @@ def crate(table, folder):
     write(f'{root}/specs/Lib.antt', 'pub mod Which\n')
     write(f'{root}/specs/Which.antt', fill(WHICH, words))
 
-    for label, (old, new) in list((label, EDITS[label]) for label in table.refused) + list(table.edits.items()):
-        write(f'{root}/must-fail/more/{label}.edit', f'file: src/lib.rt\nold: {old}\nnew: {new}\n')
+    # what a check must refuse
+    edit = lambda old, new: f'file: src/lib.rt\nold: {old}\nnew: {new}\n'
+    tried = [open(name).read() for name in glob.glob(f'{root}/must-fail/*.edit')]
+    for label, (old, new) in (EDITS | table.edits).items():
+        if fill(edit(old, new), words) not in tried:
+            write(f'{root}/must-fail/more/{label}.edit', fill(edit(old, new), words))
 
     # the proofs
     def prove(fn, why, before, proof, cites={}, unfolding=''):

@@ -1,0 +1,3 @@
+-- What showing goes by, on any browsers and buffers.
+pub mod Exhibiting
+pub mod One

@@ -1,0 +1,2 @@
+-- What showing gives.
+pub mod Exhibits

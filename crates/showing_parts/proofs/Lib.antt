@@ -1,0 +1,2 @@
+-- The loop that writes rows.
+pub mod Passing

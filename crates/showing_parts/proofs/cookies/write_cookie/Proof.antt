@@ -1,0 +1,15 @@
+-- `showing_parts::cookies::write_cookie` meets its contract: a cookie is shown as its pair goes out.
+use borrow.Author.Needs.{needs}
+use mathlib.Core.Path.{ap}
+use Rattle.csexp_write.proofs.Steps.{writes-as}
+use Rattle.shapes.specs.Events.{pairTerm}
+use Rattle.showing_parts.proofs.cookies.write_cookie.Statement.{statement}
+use Rattle.showing_parts.proofs.cookies.write_cookie.Tie as tie
+
+returns : tie.Need-returns
+returns c = writes-as (ap pairTerm (c .before .before .before .before .pair-of .ensures)) (c .before .before .write-pair .ensures)
+
+pub write-cookie-spec : {M : Type 1} → statement M
+write-cookie-spec =
+    tie.close
+    (tie.spec (λ c κs. tt) (λ c κs. search needs) (λ c. search needs) returns)

@@ -1,0 +1,2 @@
+-- What of the rows of a table is shown.
+pub mod Kept

@@ -1,0 +1,2 @@
+-- The tree, level by level.
+pub mod Trees

@@ -1,0 +1,3 @@
+-- The tree, and how many rows of a table count.
+pub mod Seen
+pub mod Counted

@@ -1,0 +1,20 @@
+// The line: what is shown, or why nothing is.
+use libc::STDOUT_FILENO;
+use rehearsal::number;
+use showing::show;
+use types::browser::Browser;
+use types::labels::WindowNumber;
+
+// 65,536 bytes hold what is shown of every browser that a run has made: each of at most 32 windows stands in the tree once.
+pub fn tell(b: Browser, w: WindowNumber) {
+    let mut text = io::large_buffer();
+    let shown = show(b, w, &mut text, 0);
+    let count = shown.count;
+    let verdict = shown.verdict;
+    let refused = number(verdict);
+    io::write_all(STDOUT_FILENO, &text[..count]);
+    if refused != 0 {
+        io::print_decimal(STDOUT_FILENO, refused as u64);
+    }
+    io::write_all(STDOUT_FILENO, b"\n");
+}
