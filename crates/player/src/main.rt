@@ -1,4 +1,4 @@
 // Plays a run: items from standard input, a line for each on standard output (01 "The player's run").
 fn main() {
-    feeding::play_all(true);
+    playing::play_all(true);
 }

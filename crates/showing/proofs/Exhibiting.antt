@@ -5,7 +5,7 @@
 --     exhibits-there · exhibits-crowded            it was written; it had no room: 7
 use mathlib.Core.Path.{_≡_, refl, sym, ap, ap₂, _∙_}
 use mathlib.Core.Bool.{Bool, true, false, cond}
-use mathlib.Core.List.{List, _++_}
+use mathlib.Core.List.{List}
 use mathlib.Core.Option.{Option, none, some}
 use Prim.Native.Nat.{ℕ, _+_}
 use lib.Dec.{leb}
@@ -19,19 +19,18 @@ use Rattle.sorted.proofs.Never.{never}
 use Rattle.sorted.specs.Table.{keep}
 use Rattle.tables.specs.Tables.{windows, documents, localStorage, sessionStorage, inputs, Tables}
 use Rattle.tables.specs.Rows.{originOf}
-use Rattle.wim.specs.Nouns.{State, WindowNumber, Origin, Top, Document, Missing, Refusal, Lacking, NoRoom, Closed, Verdict, Accepted, Refused}
+use Rattle.wim.specs.Nouns.{State, WindowNumber, Origin, Top, Document, Missing, Lacking, NoRoom, Closed, Accepted, Refused}
 use Rattle.wim.specs.Walks.{activeDocument, steps, reachedFrom}
 use Rattle.wim.specs.Program.{answer}
 use Rattle.wim.specs.View.{rowsOf, view}
 use Rattle.wim.specs.Wire.{putInto}
-use Rattle.wim.specs.Shown.{inputsTerm, cookiesTerm, localTerm, sessionTerm, tree, shownTo, Shown, hidden, shown, shownDocument, shownWindow, whatIsShown}
+use Rattle.wim.specs.Shown.{inputsTerm, cookiesTerm, localTerm, sessionTerm, shownTo, Shown, hidden, shown, shownDocument, shownWindow, whatIsShown}
 use Rattle.shown_in.specs.declared.Shown.{Shown as Look}
 use Rattle.shown_in.specs.declared.Shown.the-variants.{Lacks, Shows as Finds}
 use Rattle.shown_in.specs.Shown.{showing, shownAt}
 use Rattle.showing_parts.specs.Kept.{localAt, sessionAt}
 use Rattle.showing_tree.specs.Seen.{only, hangs, windowsUnder}
-use Rattle.showing.specs.Exhibits.{Exhibit, withheld, exhibited, exhibit, saying, Shows}
-use Rattle.showing.specs.declared.Showing.{Showing}
+use Rattle.showing.specs.Exhibits.{withheld, exhibited, exhibit, saying, Shows}
 use Rattle.showing_tree.proofs.Trees.{tree-only}
 
 -- THE WHOLE, as the code writes it for some origin.

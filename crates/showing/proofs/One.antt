@@ -2,16 +2,16 @@
 --     one-exhibit     any two results that it allows are the same: verdict, count and buffer
 --     untouched       at a refusal nothing was written, and the buffer is as it was
 --     written-within  what was written lies within the buffer
-use mathlib.Core.Path.{_≡_, refl, sym, ap, subst, _∙_}
+use mathlib.Core.Path.{_≡_, refl, sym, ap, _∙_}
 use mathlib.Core.Bool.{Bool, true, false, cond}
 use mathlib.Core.List.{List, _++_}
 use Prim.Native.Nat.{ℕ, _+_, _≤_}
 use native.Mathlib.Omega.{arith}
 use lib.Dec.{leb}
 use lib.ListN.{length, take, drop, length-append}
-use Rattle.csexp.specs.Term.{Term, write}
+use Rattle.csexp.specs.Term.{write}
 use Rattle.sorted.proofs.Never.{never}
-use Rattle.wim.specs.Nouns.{State, WindowNumber, Refusal, NoRoom, Verdict, Accepted, Refused}
+use Rattle.wim.specs.Nouns.{State, WindowNumber, Refusal, NoRoom, Accepted, Refused}
 use Rattle.wim.specs.Step.{Browser}
 use Rattle.wim.specs.View.{view}
 use Rattle.wim.specs.Wire.{putInto}

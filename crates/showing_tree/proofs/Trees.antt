@@ -7,12 +7,11 @@ use mathlib.Core.Path.{_≡_, refl, sym, ap, ap₂, subst, _∙_}
 use mathlib.Core.Bool.{Bool, true, false, cond}
 use mathlib.Core.List.{List, [], _∷_}
 use mathlib.Core.Option.{Option, none, some}
-use Prim.Native.Nat.{ℕ, zero, suc, _-_, _≤_}
-use native.Mathlib.Omega.{arith}
+use Prim.Native.Nat.{ℕ, zero, suc, _-_}
 use Rattle.csexp.specs.Term.{Term, list, Terms, nil, cons}
 use Rattle.csexp_write.specs.Encode.{each}
-use Rattle.csexp_write.specs.Puts.{top, Puts, Writes, Items}
-use Rattle.csexp_write.proofs.Steps.{opened, ended, absent, single, writes-as}
+use Rattle.csexp_write.specs.Puts.{Puts, Writes, Items}
+use Rattle.csexp_write.proofs.Steps.{opened, ended, single, writes-as}
 use Rattle.sorted.specs.Table.{keep}
 use Rattle.tables.specs.Tables.{windows, documents, inputs, Tables}
 use Rattle.tables.specs.Rows.{originOf, sameOrigin}

@@ -56,14 +56,14 @@ fn hangs_under(place: Parent, parent: Parent) -> bool
     }
 }
 
-// How many windows count.
+// How many windows count. That their array has 32 rows is told here too, where the type of the parameter says it.
 fn window_count(t: Windows) -> usize
     ensures { λ r. ⌜ Counted (t .count) 32 (t .rows) r ⌝ }
 {
     sorted::used(t.count, WINDOWS)
 }
 
-// The windows that hang somewhere: (window ..), at most so many levels deep, and none where no level is left.
+// (window ..): the windows that hang at a place, at most so many levels deep, and none where no level is left.
 pub fn write_windows(out: &mut [u8], at: usize, sight: Sight, place: Parent, levels: u32) -> usize
     ensures { λ r. ⌜ Writes (list (windowsUnder levels (seen sight) (sight .origin) place)) (now (out .entry)) at (now (out .exit)) r ⌝ }
 {

@@ -13,6 +13,6 @@ fn main() {
         io::write_all(STDOUT_FILENO, b"2\n");
         return;
     }
-    let b = feeding::play_all(false);
+    let b = playing::play_all(false);
     telling::tell(b, WindowNumber(w));
 }

@@ -1,5 +1,5 @@
 -- `showing_parts::inputs::write_inputs` meets its contract: the loop is the law `Passing`.
-use mathlib.Core.Path.{sym, _∙_}
+use mathlib.Core.Path.{_∙_}
 use Prim.Native.Nat.{_-_}
 use native.Mathlib.Omega.{arith}
 use borrow.Author.Needs.{needs}

@@ -1,2 +1,0 @@
--- What moving bytes to the front goes by.
-pub mod Moving

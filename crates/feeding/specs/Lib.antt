@@ -1,2 +1,0 @@
--- What the window keeps.
-pub mod Keeps
