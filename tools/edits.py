@@ -51,13 +51,23 @@ def apply(edit, folder):
 
 
 def first_error(said):
-    """The first error and the lines below it."""
-    at = re.search(r"^\S+: error.*(?:\n(?!\S+: error|fn ).*){0,3}", said, re.M)
+    """The first error and the lines below it; of a function that the prover proves by itself, what it could not prove."""
+    at = re.search(r"^\S+: error.*(?:\n(?!\S+: error|fn ).*){0,3}", said, re.M) or re.search(r"^note: .*", said, re.M)
     return re.sub(r"\s+", " ", at.group(0) if at else said[:300])
 
 
+def crate_of(edit):
+    return edit.split("/must-fail/")[0].rsplit("/", 1)[1]
+
+
+def prepared(crate):
+    """The crate as it stands is proved into its incremental folder."""
+    os.makedirs(f"{TOP}/target/inc/{crate}", exist_ok=True)
+    return check(crate, f"{TOP}/crates/{crate}", f"{TOP}/target/inc/{crate}")[0] == 0
+
+
 def attempt(edit):
-    crate, name = edit.split("/must-fail/")[0].rsplit("/", 1)[1], os.path.basename(edit)[:-5]
+    crate, name = crate_of(edit), os.path.basename(edit)[:-5]
     with tempfile.TemporaryDirectory() as scratch:
         for part in ("src", "specs", "proofs"):
             if os.path.isdir(f"{TOP}/crates/{crate}/{part}"):
@@ -75,11 +85,14 @@ def attempt(edit):
 def main(wanted):
     edits = sorted(glob.glob(f"{TOP}/crates/*/must-fail/**/*.edit", recursive=True))
     told = [re.sub(r".*/crates/([^/]*)/must-fail/(?:more/)?(.*)\.edit", r"\1/\2", e) for e in edits]
+    unknown = set(wanted) - set(told) - {t.split("/")[0] for t in told}
+    if unknown:
+        sys.exit(f"no edit, and no crate with edits: {' '.join(sorted(unknown))}")
     chosen = [e for e, t in zip(edits, told) if not wanted or t in wanted or t.split("/")[0] in wanted]
     jobs = ThreadPoolExecutor(int(os.environ.get("JOBS", "2")))
-    for crate in sorted({e.split("/must-fail/")[0].rsplit("/", 1)[1] for e in chosen}):
-        os.makedirs(f"{TOP}/target/inc/{crate}", exist_ok=True)
-        if check(crate, f"{TOP}/crates/{crate}", f"{TOP}/target/inc/{crate}")[0]:
+    crates = sorted({crate_of(e) for e in chosen})
+    for crate, good in zip(crates, jobs.map(prepared, crates)):
+        if not good:
             sys.exit(f"{crate} is not proved as it stands")
     refused = 0
     for good, line in jobs.map(attempt, chosen):
