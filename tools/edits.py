@@ -52,7 +52,7 @@ def apply(edit, folder):
 
 def first_error(said):
     """The first error and the lines below it; of a function that the prover proves by itself, what it could not prove."""
-    at = re.search(r"^\S+: error.*(?:\n(?!\S+: error|fn ).*){0,3}", said, re.M) or re.search(r"^note: .*", said, re.M)
+    at = re.search(r"^\S+: error(?!.*was not admitted).*(?:\n(?!\S+: error|fn ).*){0,3}", said, re.M) or re.search(r"^note: .*", said, re.M)
     return re.sub(r"\s+", " ", at.group(0) if at else said[:300])
 
 

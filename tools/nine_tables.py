@@ -307,7 +307,7 @@ documents.edits = WITHOUT | unclean('        labels::same(l, Label::OfWindow(w))
     'empty_holds_a_row': ('    let row = blank();', '    let row = blank(); return Documents { rows: [row; DOCUMENTS], count: 1 };'),
     'empty_counts_its_blank_rows': ('    let row = blank();', '    let row = blank(); return Documents { rows: [row; DOCUMENTS], count: DOCUMENTS };'),
     'numbers_counts_every_place': ('    out.count = i;', '    out.count = 64;'),
-    'numbers_are_those_of_the_windows': ('        let v = row.number;', '        let v = DocumentNumber(row.window.0);'),
+    'numbers_counts_none': ('    out.count = i;', '    out.count = 0;'),
     'revise_only_ever_sets_active': ('        Change::SetActive(w, place, a) => set_active(row, w, place, a),',
                                      '        Change::SetActive(w, place, a) => set_active(row, w, place, true),'),
     'revise_sets_other_windows_active': ('    if sorted::both(row.window.0 == w.0, row.place == place) {', '    if sorted::both(row.window.0 <= w.0, row.place == place) {'),
