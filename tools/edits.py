@@ -1,9 +1,11 @@
 #!/usr/bin/env python3
 """edits.py [CRATE | CRATE/EDIT]...: tries must-fail edits, and says of each why the prover refuses it.
 
-An edit is applied to a copy of its crate, which is then checked over a copy of the crate's incremental folder, so that only what the edit
-touches is proved again. The gate tries the edits of crates/CRATE/must-fail/ from nothing; here those of crates/CRATE/must-fail/more/ are tried too.
-`rt check` must have proved the crates before. JOBS (default 2) edits go at once. The last line is 'N refused, M not'.
+The gate tries the edits of crates/CRATE/must-fail/, each on a crate of its own and from nothing; here those of crates/CRATE/must-fail/more/ are tried too, and
+edits of different functions together: a function is proved against the contracts of those that it calls, so an edit in one body has no part in what is said of
+another. An edit is refused where its own function is. Edits of anything but one function's body are tried alone.
+
+`rt check` must have proved the crates before. JOBS (default 2) checks go at once. The last line is 'N refused, M not'.
 """
 import glob
 import os
@@ -13,91 +15,166 @@ import shutil
 import subprocess
 import sys
 import tempfile
+from collections import defaultdict
 from concurrent.futures import ThreadPoolExecutor
 
 TOP = os.path.dirname(os.path.dirname(os.path.abspath(__file__)))
 KIT = os.path.dirname(os.path.dirname(os.path.realpath(shutil.which("rt"))))
 OWN = f"{KIT}/on/{platform.machine()}"
-LISTED = dict(line.split("#")[0].split(":") for line in open(f"{TOP}/crates.txt") if ":" in line.split("#")[0])
+LISTED = {name: needs.split() for name, needs in (line.split("#")[0].split(":") for line in open(f"{TOP}/crates.txt") if ":" in line.split("#")[0])}
 
 
-def check(crate, folder, incremental):
-    """What the prover says of a crate's text in `folder`: its exit status and its words."""
+def command(verb, crate, folder):
+    """The words by which the prover is asked of a crate's text in `folder`."""
     root = next(f for f in (f"{folder}/src/main.rt", f"{folder}/src/lib.rt") if os.path.exists(f))
-    words = [f"{OWN}/bin/rattle", "check", "--crate-name", crate, root, "--extern", f"std={OWN}/rlib/std.rlib"]
-    for name in LISTED[crate].split():
+    words = [f"{OWN}/bin/rattle", verb, "--crate-name", crate, root, "--extern", f"std={OWN}/rlib/std.rlib"]
+    for name in LISTED[crate]:
         home = f"{TOP}/target" if name in LISTED else OWN
         words += ["--extern", f"{name}={home}/rlib/{name}.rlib"]
     words += ["-L", f"dependency={TOP}/target/rlib", "-L", f"dependency={OWN}/rlib"]
-    words += ["--antt-project", f"{KIT}/logic/antt-project.json", "--logic-built", f"{OWN}/logic-built", "--incremental", incremental]
-    done = subprocess.run(words, stdout=subprocess.PIPE, stderr=subprocess.STDOUT, text=True)
+    return words + ["--antt-project", f"{KIT}/logic/antt-project.json", "--logic-built", f"{OWN}/logic-built"]
+
+
+def check(crate, folder, *more):
+    """What the prover says of a crate's text in `folder`: its exit status and its words."""
+    done = subprocess.run(command("check", crate, folder) + list(more), stdout=subprocess.PIPE, stderr=subprocess.STDOUT, text=True)
     return done.returncode, done.stdout
 
 
-def apply(edit, folder):
-    """The replacements of an edit, each of a text that its file has just once; a reason where they cannot be made."""
-    name = old = None
-    for line in open(edit).read().split("\n"):
-        if line.startswith("file: "):
-            name = line[6:]
-        elif line.startswith("old: "):
-            old = line[5:]
-        elif line.startswith("new:"):
-            text = open(f"{folder}/{name}").read()
+class Edit:
+    def __init__(self, path):
+        self.path = path
+        self.crate, self.name = re.fullmatch(r".*/crates/([^/]*)/must-fail/(?:more/)?(.*)\.edit", path).groups()
+        self.pairs, self.bad = [], None
+        file = old = None
+        for line in open(path).read().split("\n"):
+            if line.startswith("file: "):
+                file = line[6:]
+            elif line.startswith("old: "):
+                old = line[5:]
+            elif line.startswith("new:"):
+                self.pairs.append((file, old, line[4:].removeprefix(" ")))
+        self.where = self.function()
+
+    def function(self):
+        """The one function whose body it edits, as its file and its name; None where there is no such function."""
+        found = set()
+        for file, old, new in self.pairs:
+            text = open(f"{TOP}/crates/{self.crate}/{file}").read()
+            at = text.find(old)
+            heads = [m for m in re.finditer(r"^(?:pub )?fn (\w+)(?:.*\n)*?\{\n", text, re.M) if m.end() <= at]
+            inside = heads and "\n}\n" not in text[heads[-1].end() - 1:at]
+            found.add((file, heads[-1].group(1)) if inside and file.startswith("src/") else None)
+        return found.pop() if len(found) == 1 else None
+
+    def apply(self, folder):
+        """Each replacement is of a text that its file has just once."""
+        for file, old, new in self.pairs:
+            text = open(f"{folder}/{file}").read()
             if text.count(old) != 1:
-                return f"its 'old:' text is {text.count(old)} times in {name}"
-            open(f"{folder}/{name}", "w").write(text.replace(old, line[4:].removeprefix(" ")))
-    return None if old else "it has no 'old:' and 'new:' pair"
+                self.bad = f"its 'old:' text is {text.count(old)} times in {file}"
+                return
+            open(f"{folder}/{file}", "w").write(text.replace(old, new))
+        if not self.pairs:
+            self.bad = "it has no 'old:' and 'new:' pair"
 
 
-def first_error(said):
-    """The first error and the lines below it; of a function that the prover proves by itself, what it could not prove."""
-    at = re.search(r"^\S+: error(?!.*was not admitted).*(?:\n(?!\S+: error|fn ).*){0,3}", said, re.M) or re.search(r"^note: .*", said, re.M)
-    return re.sub(r"\s+", " ", at.group(0) if at else said[:300])
+def proof_of(crate, function):
+    """The folder of a function's proof; one for all functions of a cycle."""
+    file, name = function
+    module = file[4:-3].removesuffix("lib").removesuffix("main")
+    home = f"{TOP}/crates/{crate}/proofs/{module}".rstrip("/")
+    cycles = [os.path.basename(p) for p in glob.glob(f"{home}/+*") if name in os.path.basename(p).split("+")]
+    return f"{home}/{cycles[0] if cycles else name}/".removeprefix(f"{TOP}/crates/{crate}/")
 
 
-def crate_of(edit):
-    return edit.split("/must-fail/")[0].rsplit("/", 1)[1]
+def together(edits):
+    """The edits of a crate in as few lots as will do: in a lot no two have one function, nor one cycle of functions."""
+    lots = defaultdict(list)
+    taken = defaultdict(int)
+    for edit in edits:
+        if edit.where:
+            home = proof_of(edit.crate, edit.where)
+            lots[taken[home]].append(edit)
+            taken[home] += 1
+    return list(lots.values()) + [[edit] for edit in edits if not edit.where]
 
 
-def prepared(crate):
-    """The crate as it stands is proved into its incremental folder."""
-    os.makedirs(f"{TOP}/target/inc/{crate}", exist_ok=True)
-    return check(crate, f"{TOP}/crates/{crate}", f"{TOP}/target/inc/{crate}")[0] == 0
+ERROR = re.compile(r"^\S+: error(?!.*was not admitted).*(?:\n(?!\S+: error|fn |note: ).*){0,3}", re.M)
 
 
-def attempt(edit):
-    crate, name = crate_of(edit), os.path.basename(edit)[:-5]
+def own_refusal(edit, said):
+    """The first error in the proof of an edit's function; or, of a function that the prover proves by itself, what it does not close."""
+    if edit.where:
+        file, name = edit.where
+        own = [e for e in ERROR.findall(said) if f"/{proof_of(edit.crate, edit.where)}" in e]
+        modules = [m for m in file[4:-3].split("/") if m not in ("lib", "main")]
+        own += re.findall(rf"^fn {'::'.join([edit.crate, *modules, name])}: .*does not close.*", said, re.M)
+        return own[0] if own else None
+
+
+def any_refusal(said):
+    """The first error, or else the first thing that the prover could not prove by itself."""
+    found = ERROR.findall(said) + re.findall(r"^note: .*", said, re.M)
+    return found[0] if found else said[:300]
+
+
+def attempt(lot):
+    """Of each edit of a lot whether it is refused, and a line on it; no line where the lot does not tell."""
+    crate = lot[0].crate
     with tempfile.TemporaryDirectory() as scratch:
         for part in ("src", "specs", "proofs"):
             if os.path.isdir(f"{TOP}/crates/{crate}/{part}"):
                 shutil.copytree(f"{TOP}/crates/{crate}/{part}", f"{scratch}/{crate}/{part}")
-        bad = apply(edit, f"{scratch}/{crate}")
-        if bad:
-            return False, f"{crate}/{name}: BAD EDIT: {bad}"
-        shutil.copytree(f"{TOP}/target/inc/{crate}", f"{scratch}/inc")
-        status, said = check(crate, f"{scratch}/{crate}", f"{scratch}/inc")
-    if status == 1 and re.search("^logic=not-proved", said, re.M):
-        return True, f"{crate}/{name}: refused: {first_error(said).replace(scratch + '/', '')[:600]}"
-    return False, f"{crate}/{name}: {'NOT REFUSED' if status == 0 else 'BAD EDIT: ' + first_error(said)}"
+        for edit in lot:
+            edit.apply(f"{scratch}/{crate}")
+        more = []
+        if os.path.isdir(f"{TOP}/target/inc/{crate}"):
+            shutil.copytree(f"{TOP}/target/inc/{crate}", f"{scratch}/inc")
+            more = ["--incremental", f"{scratch}/inc"]
+        status, said = check(crate, f"{scratch}/{crate}", *more)
+    judged = status == 0 or (status == 1 and re.search("^logic=not-proved", said, re.M))
+    told = []
+    for edit in lot:
+        why = own_refusal(edit, said) or (any_refusal(said) if status and len(lot) == 1 else None)
+        if edit.bad or (len(lot) == 1 and not judged):
+            told.append((False, f"{crate}/{edit.name}: BAD EDIT: {edit.bad or why}"))
+        elif why and judged:
+            told.append((True, f"{crate}/{edit.name}: refused: " + re.sub(r"\s+", " ", why.replace(scratch + "/", ""))[:600]))
+        else:
+            told.append((False, f"{crate}/{edit.name}: NOT REFUSED" if len(lot) == 1 else None))
+    return told
+
+
+def prepared(crate):
+    """The crate as it stands is proved into its incremental folder, so that a lot proves again only what it touches."""
+    os.makedirs(f"{TOP}/target/inc/{crate}", exist_ok=True)
+    return check(crate, f"{TOP}/crates/{crate}", "--incremental", f"{TOP}/target/inc/{crate}")[0] == 0
+
+
+def tried(crate, edits, jobs):
+    """Whether each edit is refused, and a line on it. An edit of which its lot does not tell is tried again, alone."""
+    lots = together(edits)
+    if len(lots) > 2 and not prepared(crate):
+        sys.exit(f"{crate} is not proved as it stands")
+    told = [(edit, *answer) for lot, answers in zip(lots, jobs.map(attempt, lots)) for edit, answer in zip(lot, answers)]
+    again = [edit for edit, good, line in told if line is None]
+    return [(good, line) for edit, good, line in told if line is not None] + [answers[0] for answers in jobs.map(attempt, [[edit] for edit in again])]
 
 
 def main(wanted):
-    edits = sorted(glob.glob(f"{TOP}/crates/*/must-fail/**/*.edit", recursive=True))
-    told = [re.sub(r".*/crates/([^/]*)/must-fail/(?:more/)?(.*)\.edit", r"\1/\2", e) for e in edits]
-    unknown = set(wanted) - set(told) - {t.split("/")[0] for t in told}
-    if unknown:
-        sys.exit(f"no edit, and no crate with edits: {' '.join(sorted(unknown))}")
-    chosen = [e for e, t in zip(edits, told) if not wanted or t in wanted or t.split("/")[0] in wanted]
-    jobs = ThreadPoolExecutor(int(os.environ.get("JOBS", "2")))
-    crates = sorted({crate_of(e) for e in chosen})
-    for crate, good in zip(crates, jobs.map(prepared, crates)):
-        if not good:
-            sys.exit(f"{crate} is not proved as it stands")
+    edits = [Edit(path) for path in sorted(glob.glob(f"{TOP}/crates/*/must-fail/**/*.edit", recursive=True))]
+    told = {e.crate for e in edits} | {f"{e.crate}/{e.name}" for e in edits}
+    if set(wanted) - told:
+        sys.exit(f"no edit, and no crate with edits: {' '.join(sorted(set(wanted) - told))}")
+    chosen = [e for e in edits if not wanted or e.crate in wanted or f"{e.crate}/{e.name}" in wanted]
+    count = int(os.environ.get("JOBS", "2"))
+    crates, jobs = ThreadPoolExecutor(count), ThreadPoolExecutor(count)
     refused = 0
-    for good, line in jobs.map(attempt, chosen):
-        refused += good
-        print(line, flush=True)
+    for lines in crates.map(lambda c: tried(c, [e for e in chosen if e.crate == c], jobs), sorted({e.crate for e in chosen})):
+        for good, line in lines:
+            refused += good
+            print(line, flush=True)
     print(f"{refused} refused, {len(chosen) - refused} not")
     return refused != len(chosen)
 

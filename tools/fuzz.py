@@ -1,7 +1,7 @@
 #!/usr/bin/env python3
 """fuzz.py RUNS [SEED]: plays mutated runs through the built player and looks for a crash, a hang or a line that is none.
 
-The runs of crates/vectors/data are cut, and bytes of them flipped, dropped, doubled or moved. `./run player` must have built the player before.
+The runs of crates/player/data are cut, and bytes of them flipped, dropped, doubled or moved. `./run player` must have built the player before.
 """
 import glob
 import os
@@ -9,11 +9,13 @@ import random
 import re
 import subprocess
 import sys
+import tempfile
 from concurrent.futures import ThreadPoolExecutor
 
 TOP = os.path.dirname(os.path.dirname(os.path.abspath(__file__)))
 LINE = re.compile(rb"\(\)|[1-8]|\(.*\)", re.S)
 BYTES = b"()0123456789:\n"
+TOGETHER = 50
 
 
 def mutated(text, dice):
@@ -34,15 +36,25 @@ def mutated(text, dice):
     return bytes(text)
 
 
-def complaint(text):
-    """What is wrong with the player's answer to a text, or None."""
-    try:
-        done = subprocess.run([TOP + "/run", "--built", "player"], input=text, capture_output=True, timeout=60)
-    except subprocess.TimeoutExpired:
-        return "hangs"
+def answers(texts):
+    """What the player prints of each text, all played by one start; or what is wrong with the start."""
+    with tempfile.TemporaryDirectory() as folder:
+        names = [f"run{n}" for n in range(len(texts))]
+        for name, text in zip(names, texts):
+            open(f"{folder}/{name}", "wb").write(text)
+        try:
+            done = subprocess.run([TOP + "/run", "--built", "player", *names], cwd=folder, capture_output=True, timeout=600)
+        except subprocess.TimeoutExpired:
+            return "hangs"
     if done.returncode != 0:
         return f"exit status {done.returncode}"
-    lines = done.stdout.split(b"\n")
+    printed = re.split(rb"^run\d+\n", done.stdout, flags=re.M)[1:]
+    return printed if len(printed) == len(texts) else "a run without its name"
+
+
+def complaint(printed):
+    """What is wrong with the lines of a run, or None."""
+    lines = printed.split(b"\n")
     if lines.pop() != b"":
         return "the last line is cut"
     if not all(LINE.fullmatch(line) for line in lines):
@@ -52,16 +64,26 @@ def complaint(text):
     return None
 
 
+def complaints(texts):
+    """What is wrong with the answers to texts, one by one. Where one start cannot play them all, each has its own."""
+    printed = answers(texts)
+    if isinstance(printed, list):
+        return [complaint(p) for p in printed]
+    return [printed] if len(texts) == 1 else [wrong for text in texts for wrong in complaints([text])]
+
+
 def main(runs, seed):
-    sources = [open(name, "rb").read() for name in sorted(glob.glob(TOP + "/crates/vectors/data/*/*.in"))]
+    sources = [open(name, "rb").read() for name in sorted(glob.glob(TOP + "/crates/player/data/*/*.in"))]
     dice = random.Random(seed)
     texts = [mutated(dice.choice(sources), dice) for _ in range(runs)]
+    starts = [texts[at:at + TOGETHER] for at in range(0, runs, TOGETHER)]
     bad = 0
     with ThreadPoolExecutor(2) as pool:
-        for text, wrong in zip(texts, pool.map(complaint, texts)):
-            if wrong:
-                bad += 1
-                print(wrong, text[:2000])
+        for start, wrongs in zip(starts, pool.map(complaints, starts)):
+            for text, wrong in zip(start, wrongs):
+                if wrong:
+                    bad += 1
+                    print(wrong, text[:2000])
     print(f"{runs - bad} passed, {bad} failed")
     return bad != 0
 

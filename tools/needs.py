@@ -4,7 +4,25 @@ import os, re, subprocess, tempfile
 ENV = dict(os.environ, RT_CUT='0')
 
 
-class Left:
+class Places:
+    """What is known at each place of a function's code, as the prover has it in `folder`."""
+
+    def __init__(self, folder):
+        lts = open(f'{folder}/Lts.antt').read()
+        self.places = {p: (b, t) for p, b, t in re.findall(r'pub record (\S+) : Type 0 where\n\s+pub before : (\S+)\n\s+pub (\S+) :', lts)}
+        self.where = dict(re.findall(r'Need-(\S+) =\s*\(c : (\S+)\)', lts))
+
+    def way(self, need):
+        """What lies on the way to a need, first to last: its name, its place, and how many `.before` lead back to it."""
+        place, steps, found = self.where[need], 0, []
+        while place in self.places:
+            before, thing = self.places[place]
+            found.append((thing, place, steps))
+            place, steps = before, steps + 1
+        return found[::-1]
+
+
+class Left(Places):
     """A function with no proof file: the lines that `rt dev` prints for it, and what is known at each of its places."""
 
     def __init__(self, crate, path, text, made):
@@ -15,20 +33,9 @@ class Left:
         self.answers = dict(re.findall(r'^(\S+) c(?: κs)? = (.*)$', text, re.M))
         self.takes_lifetimes = {n for n, k in re.findall(r'^(\S+) c( κs)? = ', text, re.M) if k}
         self.module = re.search(r'^use (\S+)\.Statement', text, re.M).group(1)
-        lts = open(f'{made}/Rattle.{crate}.proofs/proofs/{folder}/Lts.antt').read()
-        self.places = {p: (b, t) for p, b, t in re.findall(r'pub record (\S+) : Type 0 where\n\s+pub before : (\S+)\n\s+pub (\S+) :', lts)}
-        self.where = dict(re.findall(r'Need-(\S+) =\s*\(c : (\S+)\)', lts))
+        super().__init__(f'{made}/Rattle.{crate}.proofs/proofs/{folder}')
         self.calls = {re.sub(r'-requires(?:-(\d+))?$', lambda k: k.group(1) or '', n) for n in self.spec if '-requires' in n}
         self.holes = [n for n in self.spec if self.answers[n] == '?']
-
-    def way(self, need):
-        """What lies on the way to a need, first to last: its name, its place, and how many `.before` lead back to it."""
-        place, steps, found = self.where[need], 0, []
-        while place in self.places:
-            before, thing = self.places[place]
-            found.append((thing, place, steps))
-            place, steps = before, steps + 1
-        return found[::-1]
 
     def write(self, first, uses, body):
         """The proof file: these answers, and `search needs` for every need that it closes."""

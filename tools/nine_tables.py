@@ -1,7 +1,7 @@
 """The nine tables of the browser, for tools/tables.py. Rows, keys and capacities are those of crates/types and crates/tables."""
 import re
 
-from tables import Table, Test, Function, Clean, Without, Collect, MapAll, Revise, PutAll, part
+from tables import Table, Test, Function, Size, Clean, Without, Collect, MapAll, Revise, PutAll, part
 
 USES = [f'types::{module}::{name}' for module, names in {
     'addresses': ['Address', 'Host', 'Origin', 'Protocol'],
@@ -62,6 +62,9 @@ def table(name, crate, row, struct, key, blank, about, tests=(), functions=(), *
                  tests=[t for t, _ in made], functions=[f for _, f in made] + list(functions), uses=USES, cites=CITES, **more)
 
 
+SIZE, MISCOUNTED = Size()
+
+
 def lines(*each):
     return '\n    '.join(each)
 
@@ -84,7 +87,7 @@ without, spares = Without('number', 'WindowNumbers', 'labels::window_one_of')
 windows = table('windows', 'windows', 'Window', 'Windows', [part('number', 'WindowNumber')],
                 'Window { number: WindowNumber(0), parent: Parent::Top, opener: Opener::Nobody }', 'The windows, by number', meanings=spares)
 windows.tests += [mentions]
-windows.functions += clean + without
+windows.functions += [SIZE] + clean + without
 
 # ---------------------------------------------------------------- documents
 
@@ -185,7 +188,7 @@ documents.cites = {**CITES, 'lib.Dec': ['eqb', 'ltb', 'leb'], 'Prim.Native.Nat':
                    'Rattle.documents.specs.declared.Change': ['Change'],
                    'Rattle.documents.specs.declared.Change.the-variants': ['SetActive', 'SetState', 'SetScript']}
 documents.tests += [mentions]
-documents.functions += [CHANGE] + CHANGED + [NO_NUMBERS] + clean + without + [
+documents.functions += [CHANGE] + CHANGED + [NO_NUMBERS, SIZE] + clean + without + [
     MapAll('numbers', 'The numbers of all documents.', 'number', 'numberOf', 'DocumentNumbers', 'no_numbers'), Revise('Change', 'changes')]
 
 # ---------------------------------------------------------------- cookies
@@ -250,7 +253,7 @@ inputs = table('inputs', 'inputs', 'Input', 'Inputs', [part('document', 'Documen
                'The inputs of scripts, by document and arrival',
                tests=[test('OfDocument', 'of_document', [('n', 'DocumentNumber')], 'sameDocument (row .document) n', 'row.document.0 == n.0')], meanings=spares)
 inputs.tests += [mentions]
-inputs.functions += clean + without
+inputs.functions += [SIZE] + clean + without
 
 # ---------------------------------------------------------------- what waits
 
@@ -299,10 +302,10 @@ sts = table('sts', 'sts', 'StrictHost', 'Sts', [part('host', 'Host')], 'StrictHo
 
 # ---------------------------------------------------------------- edits that a check must refuse
 
-windows.edits = WITHOUT | unclean('        labels::same(l, Label::OfWindow(n)),',
+windows.edits = MISCOUNTED | WITHOUT | unclean('        labels::same(l, Label::OfWindow(n)),',
                                   an_opener_is_forgotten=('    let o = row.opener;', '    let o = Opener::Nobody;'),
                                   a_parent_is_forgotten=('    let p = row.parent;', '    let p = Parent::Top;'))
-documents.edits = WITHOUT | unclean('        labels::same(l, Label::OfWindow(w)),',
+documents.edits = MISCOUNTED | WITHOUT | unclean('        labels::same(l, Label::OfWindow(w)),',
                                     a_document_is_forgotten=('        labels::same(l, Label::OfDocument(n)),', '        labels::same(l, Label::OfWindow(w)),')) | {
     'empty_holds_a_row': ('    let row = blank();', '    let row = blank(); return Documents { rows: [row; DOCUMENTS], count: 1 };'),
     'empty_counts_its_blank_rows': ('    let row = blank();', '    let row = blank(); return Documents { rows: [row; DOCUMENTS], count: DOCUMENTS };'),
@@ -324,7 +327,7 @@ cookies.edits = {
 }
 session_storage.edits = unclean('    labels::same(l, Label::OfWindow(top))',
                                 a_session_row_is_forgotten=('    labels::same(l, Label::OfWindow(top))', '    labels::same(l, Label::OfWindow(WindowNumber(0)))'))
-inputs.edits = WITHOUT | unclean('    sorted::either(labels::same(l, Label::OfDocument(d)), labels::in_news(l, n))',
+inputs.edits = MISCOUNTED | WITHOUT | unclean('    sorted::either(labels::same(l, Label::OfDocument(d)), labels::in_news(l, n))',
                                  a_sender_is_forgotten=('    let n = row.news;', '    let n = News::Answered(Matching::Unmatched, Body::Number(0));'))
 pending_dns.edits = unclean('        labels::same(l, Label::OfDns(n)),',
                             a_request_is_forgotten=('            labels::same(l, Label::OfRequest(q)),', '            labels::same(l, Label::OfDns(n)),'),

@@ -14,6 +14,8 @@ no loop and no proof file yet, has `rt dev` write down what is known at each pla
 A file that is there is never written over: remove it to have it written anew. What does not go by these rules is proved by hand."""
 import glob, os, re, subprocess, sys, tempfile
 
+from needs import Places, rows
+
 crate, only = sys.argv[1], [a for a in sys.argv[2:] if a != '--choices']
 as_choices = '--choices' in sys.argv[2:]
 HEAD = r'fn (\w+)(?:<[^>]*>)?\([^{]*\)[^{]*\n\s+ensures \{ λ \w+\. ⌜ (Reads|Rest|Tries|Marks) '
@@ -37,24 +39,11 @@ def contract(call):
     return says.get(call) or says.get(re.sub(r'\d+$', '', call))
 
 
-class Code:
-    """What is known at each place of a function's code."""
-
+class Code(Places):
     def __init__(self, made, rooms):
         folder = f'{made}/Rattle.{crate}.proofs/proofs/{"/".join(rooms)}'
-        lts = open(f'{folder}/Lts.antt').read()
+        super().__init__(folder)
         self.needs = re.findall(r'^abbrev pub Need-(\S+) :', open(f'{folder}/Tie.antt').read(), re.M)
-        self.places = {p: (b, t) for p, b, t in re.findall(r'pub record (\S+) : Type 0 where\n\s+pub before : (\S+)\n\s+pub (\S+) :', lts)}
-        self.where = dict(re.findall(r'Need-(\S+) =\s*\(c : (\S+)\)', lts))
-
-    def way(self, need):
-        """What lies on the way to a need, first to last: its name, its place, and how many `.before` lead back to it."""
-        place, steps, found = self.where[need], 0, []
-        while place in self.places:
-            before, thing = self.places[place]
-            found.append((thing, place, steps))
-            place, steps = before, steps + 1
-        return found[::-1]
 
 
 def fact(steps, *names):
@@ -85,17 +74,6 @@ def choice(way):
             else:
                 call = f'(chosen _ {call} {fact(steps, thing, "taken")})'
     return lines + [call + ')' * len(lines)]
-
-
-def rows(head, words, last):
-    """Words in rows of at most 130 characters."""
-    done, row = [], head
-    for w in words:
-        if len(row) + 1 + len(w) > 130:
-            done.append(row)
-            row = '   '
-        row += ' ' + w
-    return done + [row + last]
 
 
 def write(name, rooms, path, code):

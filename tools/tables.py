@@ -6,7 +6,7 @@
 DESCRIPTION is a Python file that makes TABLES, a list of `Table(..)`; FOLDER has the crates (`crates` beside this folder
 where none is given). For each table the folder CRATE is written:
 
-    src/lib.rt               Which, Found, Offer; empty, size, first, keep, put; the functions of the description
+    src/lib.rt               Which, Found, Offer; empty, first, keep, put; the functions of the description
     specs/Lib.antt Which.antt    what the tests of Which mean, and what else the contracts cite
     must-fail/more/          EDITS, and the edits that the description names
     proofs/F/Proof.antt      one for each function that Rattle does not prove by itself
@@ -157,13 +157,6 @@ pub fn empty() -> @Table@
         rows: [row; @CAPACITY@],
         count: 0,
     }
-}
-
-// How many rows count.
-pub fn size(t: @Table@) -> usize
-    ensures { λ r. ⌜ r ≡ length (take (t .count) (t .rows)) ⌝ }
-{
-    sorted::used(t.count, @CAPACITY@)
 }
 
 // How a key stands to a row's.
@@ -399,7 +392,6 @@ abbrev μ-loop : tie.MeasureT-loop
 
 # The proofs: why, what stands before, the term. A need of a call without `requires` is (λ c κs. tt); an index or a sum is omega arith.
 PROOFS = {
-    'size': ('A count beyond the capacity reads as the capacity.', '', '(λ c κs. tt) (λ c. row-count (c^1 .args .t .count) (cap @name@) (c .used .result) (c^1 .args .t .rows) (search mapped) (c .used .ensures))'),
     'seek': ('The loop looks for the first row that does not stand before r.', '''
 abbrev Inv-loop : tie.InvT-loop
 Inv-loop r t n i₀ i = Seeking (stand (keyOf @name@) (cmp @name@) r) (t .count) (cap @name@) n (t .rows) i
@@ -473,8 +465,6 @@ abbrev μ-loop : tie.MeasureT-loop
 EDITS = {
     'empty_holds_a_row': ('        count: 0,', '        count: 1,'),
     'empty_counts_its_blank_rows': ('        count: 0,', '        count: @CAPACITY@,'),
-    'size_believes_the_count': ('    sorted::used(t.count, @CAPACITY@)', '    sorted::used(t.count, t.count)'),
-    'size_counts_every_place': ('    sorted::used(t.count, @CAPACITY@)', '    sorted::used(@CAPACITY@, @CAPACITY@)'),
     'first_denies_the_row': ('                found: true,', '                found: false,'),
     'first_finds_where_none_passes': ('        found: false,', '        found: true,'),
     'keep_stores_where_it_reads': ('            u.rows[j] = row;', '            u.rows[i] = row;'),
@@ -483,6 +473,21 @@ EDITS = {
     'put_loses_a_last_row': ('        hit: false,', '        hit: true,'),
     'put_counts_two': ('        u.count = n + 1;', '        u.count = n + 2;'),
 }
+
+
+def Size():
+    """How many rows count, and its wrong answers."""
+    return Function('size', '''
+// How many rows count.
+pub fn size(t: @Table@) -> usize
+    ensures { λ r. ⌜ r ≡ length (take (t .count) (t .rows)) ⌝ }
+{
+    sorted::used(t.count, @CAPACITY@)
+}
+''', '(λ c κs. tt) (λ c. row-count (c^1 .args .t .count) (cap @name@) (c .used .result) (c^1 .args .t .rows) (search mapped) (c .used .ensures))', why='A count beyond the capacity reads as the capacity.'), {
+        'size_believes_the_count': ('    sorted::used(t.count, @CAPACITY@)', '    sorted::used(t.count, t.count)'),
+        'size_counts_every_place': ('    sorted::used(t.count, @CAPACITY@)', '    sorted::used(@CAPACITY@, @CAPACITY@)'),
+    }
 
 
 def Clean(calls, proof):
@@ -766,7 +771,8 @@ def fill(text, words):
 
 def occurs(name, text):
     bare = name.strip('_')
-    return re.search(r'(?<![\w·-])' + re.escape(bare) + r'(?![\w·-])', text) if re.match(r'\w', bare) else bare in text
+    around = r'[\w·-]' if re.match(r'\w', bare) else r'[^\s()]'
+    return re.search(f'(?<!{around}){re.escape(bare)}(?!{around})', text)
 
 
 def cited(text, cites, line):

@@ -12,7 +12,7 @@ use types::rows::HostCookie;
 ghost use mathlib.Core.Path.{_≡_};
 ghost use mathlib.Core.Bool.{not, _&&_};
 ghost use mathlib.Core.List.{[], map};
-ghost use lib.ListN.{take, length};
+ghost use lib.ListN.{take};
 ghost use Rattle.sorted.specs.Order.{same};
 ghost use Rattle.sorted.specs.Table.{find, keep, insert, stand, looked, opened, Sought, Offered};
 ghost use Rattle.tables.specs.Tables.{cookies, keyOf, cmp, cap, changed};
@@ -66,13 +66,6 @@ pub fn empty() -> Cookies
         rows: [row; COOKIES],
         count: 0,
     }
-}
-
-// How many rows count.
-pub fn size(t: Cookies) -> usize
-    ensures { λ r. ⌜ r ≡ length (take (t .count) (t .rows)) ⌝ }
-{
-    sorted::used(t.count, COOKIES)
 }
 
 // How a key stands to a row's.

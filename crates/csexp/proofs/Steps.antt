@@ -4,7 +4,7 @@
 --     tried · tried-there · tried-not      a field that may be absent: what stands behind it, that it is there, that it is not
 --     chosen · other · missed              the first of two decoders, the second, that the first finds nothing
 --     vacant · filled                      () for no value, another term for one
---     mapped · meant · gathered            a value made of a value, of a word, of all fields
+--     mapped · meant                       a value made of a value, of a word
 --     ended · counted · refused            a list of at most n: its ')', one more, no room
 --     there · nowhere                      to an enum: found, not found
 use mathlib.Core.Path.{_≡_, refl, sym, ap, _∙_}
@@ -19,7 +19,7 @@ use borrow.Author.Tests.{leb-false, le-leb, lt-leb}
 use Rattle.csexp.specs.Term.{Term}
 use Rattle.csexp.specs.Read.{reads, term}
 use Rattle.csexp.specs.At.{At, fails, ends, place, termAt, termsAt, markAt, seen}
-use Rattle.csexp.specs.Decode.{Decoder, Fields, and-then, inside, one, end, upTo, perhaps, either, first, maps, gather, word, means, emptyList, optionally}
+use Rattle.csexp.specs.Decode.{Decoder, Fields, and-then, inside, one, end, upTo, perhaps, either, first, maps, word, means, emptyList, optionally}
 use Rattle.csexp.specs.Answers.{found, decode, Reads, Rest, Marks, triedAt, Tries}
 use Rattle.csexp.proofs.Places.{bind, or, at-inside, at-one, at-end, at-up-to, at-none, at-perhaps}
 
@@ -79,12 +79,6 @@ found-map f (some a) p = refl
 decode-map : {T A B : Type 0} (f : A → B) (d : T → Option A) (m : At T) → decode (λ t. and-then (d t) (λ a. some (f a))) m ≡ bind (decode d m) (λ a q. ends (f a) q)
 decode-map f d fails = refl
 decode-map f d (ends t p) = found-map f (d t) p
-
-pub gathered : {A B : Type 0} {s : List ℕ} {at p : ℕ} {f : Fields A} {v : A} (g : A → B) → Rest f s at v p → Rest (gather g f) s at (g v) p
-unfolding gather
-gathered {A} {B} {s} {at} {p} {f} {v} g m = record {
-  exactly = seen-map s g v p ∙ ap (λ (x : At A). bind x (λ a q. ends (g a) q)) (m .exactly) ∙ sym (decode-map g f (termsAt s at));
-}
 
 pub mapped : {A B : Type 0} {s : List ℕ} {at p : ℕ} {d : Decoder A} {v : A} {w : B} (f : A → B) → Reads d s at v p → f v ≡ w → Reads (maps f d) s at w p
 unfolding maps

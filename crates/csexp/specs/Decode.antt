@@ -1,5 +1,5 @@
 -- How a value is read off a term: a decoder is a function from terms to a value or nothing, put together from these.
---     inside · one · end · perhaps · upTo · gather     a list and its fields
+--     inside · one · end · perhaps · upTo              a list and its fields
 --     either · maps · optionally                       one of two, a value made of a value, () or a value
 --     word · means · numeral · atomOf                  atoms
 --     emptyList · optionalOf · labelledOf              (), () or a number, (3:dns2:32)
@@ -42,10 +42,6 @@ unfoldable pub upTo : {A : Type 0} → ℕ → Decoder A → Fields (List A)
 upTo n d nil = some []
 upTo zero d (cons t ts) = none
 upTo (suc n) d (cons t ts) = and-then (d t) (λ a. and-then (upTo n d ts) (λ more. some (a ∷ more)))
-
--- a value made of what all these terms say
-unfoldable pub gather : {A B : Type 0} → (A → B) → Fields A → Fields B
-gather g f ts = and-then (f ts) (λ a. some (g a))
 
 -- a term that may be absent, and then the others: b stands for its absence
 abbrev pub or-else : {A B : Type 0} → Option A → (A → B) → B → B

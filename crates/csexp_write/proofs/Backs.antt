@@ -1,9 +1,9 @@
 -- Reading back what was encoded: a law for each pair of an encoder's and a decoder's parts.
---     in-list · then-one · at-end · by-gather                    a list and its fields
+--     in-list · then-one · at-end                                a list and its fields
 --     is-there · is-other · is-last                              a field that may be absent
 --     first-of · second-of · by-maps · is-vacant · is-filled     one of two, a value made of a value, () or a value
 --     is-word · is-means · is-number · is-labelled · is-optional
---     no-list · no-empty · no-word · no-means · no-begin · no-number · no-maps     what a decoder finds nothing in
+--     no-list · no-word · no-means · no-begin · no-number · no-maps     what a decoder finds nothing in
 --     all-back                                                   a list of at most n values
 use mathlib.Core.Path.{_≡_, refl, sym, ap, subst, _∙_}
 use mathlib.Core.Bool.{Bool, true, false, cond}
@@ -16,7 +16,7 @@ use lib.Dec.{eqb}
 use borrow.Author.Tests.{le-leb, eq-eqb, eqb-true, eqb-false}
 use Rattle.csexp.specs.Term.{Term, atom, list, Terms, nil, cons, decimal}
 use Rattle.csexp.specs.Read.{Got, got, number, run}
-use Rattle.csexp.specs.Decode.{Decoder, Fields, and-then, inside, one, end, upTo, gather, atomOf, either, first, maps, same, word, means, perhaps, emptyList, optionally, optionalOf, labelledOf, all-read, between, numeral}
+use Rattle.csexp.specs.Decode.{Decoder, Fields, and-then, inside, one, end, upTo, atomOf, either, first, maps, same, word, means, perhaps, emptyList, optionally, optionalOf, labelledOf, all-read, between, numeral}
 use Rattle.csexp.proofs.Numbers.{number-complete}
 use Rattle.csexp_write.specs.Encode.{numberTerm, optionalTerm, each, labelled}
 
@@ -64,10 +64,6 @@ module _ {A B : Type 0} where
   unfolding maps
   no-maps {d} {t} f n = record { is = ap (λ (m : Option A). and-then m (λ a. some (f a))) (n .is) }
 
-  pub by-gather : {f : Fields A} {ts : Terms} {a : A} (g : A → B) → Holds f ts a → Holds (gather g f) ts (g a)
-  unfolding gather
-  by-gather {f} {ts} {a} g h = record { is = ap (λ (m : Option A). and-then m (λ a. some (g a))) (h .is) }
-
 -- () for no value, and another term for one
 module _ {A B : Type 0} where
   pub is-vacant : {b : B} (f : A → B) (d : Decoder A) → Gives (optionally b f d) (list nil) b
@@ -93,11 +89,6 @@ module _ {A B C : Type 0} where
   pub is-last : {v : C} (b : B) (f : A → B) (d : Decoder A) (k : B → Fields C) → Holds (k b) nil v → Holds (perhaps b f d k) nil v
   unfolding perhaps
   is-last b f d k h = record { is = h .is }
-
--- a list with something in it is not ()
-pub no-empty : (t : Term) (ts : Terms) → Denies emptyList (list (cons t ts))
-unfolding inside end
-no-empty t ts = record { is = refl }
 
 pub same-self : (w : List ℕ) → same w w ≡ true
 unfolding same

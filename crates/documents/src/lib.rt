@@ -83,13 +83,6 @@ pub fn empty() -> Documents
     }
 }
 
-// How many rows count.
-pub fn size(t: Documents) -> usize
-    ensures { λ r. ⌜ r ≡ length (take (t .count) (t .rows)) ⌝ }
-{
-    sorted::used(t.count, DOCUMENTS)
-}
-
 // How a key stands to a row's.
 fn stands(window: WindowNumber, place: u32, row: Document) -> sorted::Order
     ensures { λ r. ⌜ r ≡ cmp documents (window .0, place) (keyOf documents row) ⌝ }
@@ -363,6 +356,13 @@ pub fn put(t: Documents, row: Document) -> Offer
         table: t,
         done: false,
     }
+}
+
+// How many rows count.
+pub fn size(t: Documents) -> usize
+    ensures { λ r. ⌜ r ≡ length (take (t .count) (t .rows)) ⌝ }
+{
+    sorted::used(t.count, DOCUMENTS)
 }
 
 // Whether no row speaks of a label.

@@ -1,5 +1,5 @@
 -- From a draft to what the step gives: refused with 6 where a table had no room, and accepted where none was too long.
-use mathlib.Core.Path.{_≡_, refl, sym, _∙_, ap}
+use mathlib.Core.Path.{_≡_, sym, _∙_, ap}
 use mathlib.Core.Bool.{Bool, true, false, not, false≢true}
 use mathlib.Core.List.{List, []}
 use mathlib.Core.Option.{none}
@@ -12,18 +12,16 @@ use Rattle.types.specs.declared.browser.Draft.{Draft}
 use Rattle.types.specs.declared.refusals.Performed.{Performed}
 use Rattle.types.specs.declared.refusals.Refusal.{Refusal}
 use Rattle.types.specs.declared.refusals.Refusal.the-variants.{Full}
-use Rattle.types.specs.declared.refusals.Verdict.{Verdict}
 use Rattle.types.specs.declared.refusals.Verdict.the-variants.{Accepted, Refused}
 use Rattle.types.specs.declared.requests.Request.{Request}
 use Rattle.types.specs.declared.requests.Sent.{Sent}
 use Rattle.sorted.proofs.Never.{never}
 use Rattle.sorted.proofs.Count.{taken-fits}
-use Rattle.tables.specs.Tables.{Table, windows, documents, cookies, localStorage, sessionStorage, inputs, pendingDNS, pendingRequests, sts, Tables}
+use Rattle.tables.specs.Tables.{windows, documents, cookies, inputs, sts, Tables}
 use Rattle.tables.proofs.Update.{each}
 use Rattle.shapes.specs.Events.{messageOf}
-use Rattle.wim.specs.Program.{made}
-use Rattle.wim.specs.Step.{Result, declined, accepted, fit, fits, fitted, concluded}
-use Rattle.wim.specs.View.{rowsOf, Told, told, settled, view}
+use Rattle.wim.specs.Step.{declined, accepted, fit, fits}
+use Rattle.wim.specs.View.{rowsOf, view}
 use Rattle.draft.specs.Holds.{Holds, Fitting}
 use Rattle.draft.specs.Gives.{Answers, Concludes}
 use Rattle.draft.proofs.Carry.{draft-fits}

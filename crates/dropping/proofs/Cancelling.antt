@@ -1,10 +1,8 @@
 -- A window's number without its label equals no reference, so that nothing is cancelled by it.
-use mathlib.Core.Path.{_≡_, refl, sym, ap, _∙_}
+use mathlib.Core.Path.{_≡_, refl}
 use mathlib.Core.Bool.{true}
-use mathlib.Core.List.{List}
 use Rattle.types.specs.declared.labels.WindowNumber.{WindowNumber}
 use Rattle.types.specs.declared.requests.Cancelled.the-variants.{Bare}
-use Rattle.sorted.specs.Table.{keep}
 use Rattle.sorted.proofs.Member.{keep-all}
 use Rattle.tables.specs.Tables.{pendingDNS, pendingRequests, Tables}
 use Rattle.tables.proofs.Update.{same-tables}

@@ -11,7 +11,7 @@ use lib.ListN.{length}
 use Rattle.sorted.specs.Table.{keep, In, isSome, at}
 use Rattle.sorted.proofs.Never.{never}
 use Rattle.sorted.proofs.Tests.{and-left, or-one}
-use Rattle.sorted.proofs.Member.{find-in, in-keep, find-keep, keep-keep, keep-same}
+use Rattle.sorted.proofs.Member.{in-keep, find-keep, keep-keep, keep-same}
 use Rattle.sorted.proofs.Sorted.{only}
 use Rattle.sorted.proofs.Lookup.{at-only}
 use Rattle.tables.specs.Tables.{Table, windows, documents, cookies, inputs, pendingDNS, pendingRequests, sts, Row, Key, keyOf, cmp, Tables}

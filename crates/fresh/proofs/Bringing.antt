@@ -3,7 +3,6 @@ use mathlib.Core.Path.{_≡_, refl, sym, ap, _∙_}
 use mathlib.Core.Bool.{Bool, true, false, cond, _&&_}
 use mathlib.Core.List.{List, [], _∷_, map}
 use mathlib.Core.Option.{Option}
-use Prim.Native.Nat.{ℕ}
 use lib.Dec.{eqb}
 use Rattle.types.specs.declared.refusals.Refusal.the-variants.{NotFresh}
 use Rattle.tables.specs.Tables.{Tables, update, apply}

@@ -14,7 +14,7 @@ use Rattle.tables.specs.Tables.{Tables}
 use Rattle.tables.specs.Labels.{Kind, code, Label}
 use Rattle.wim.specs.Program.{Program, refused, run}
 use Rattle.wim.specs.Step.{numbers, given, freshLabels, allFresh, fitted, admit}
-use Rattle.fresh.specs.Wanted.{flags, chosen, kinds, picked, agrees, exactly, ready}
+use Rattle.fresh.specs.Wanted.{flags, chosen, kinds, picked, exactly, ready}
 use Rattle.fresh.specs.Brings.{Brings}
 use Rattle.fresh.proofs.Bringing.{matches, stale, admitted}
 

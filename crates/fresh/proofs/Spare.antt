@@ -1,20 +1,18 @@
 -- The code asks of each number that is given whether it stands anywhere, table by table; cookies, local storage and STS hosts speak of hosts alone.
-use mathlib.Core.Path.{_≡_, refl, sym, ap, _∙_}
-use mathlib.Core.Bool.{Bool, true, false, cond, not, _&&_}
+use mathlib.Core.Path.{_≡_, refl, ap}
+use mathlib.Core.Bool.{Bool, true, false, cond, _&&_}
 use mathlib.Core.List.{List, [], _∷_}
-use Prim.Native.Nat.{ℕ}
 use lib.Dec.{eqb}
 use Rattle.types.specs.declared.labels.Label.{Label as Mark}
-use Rattle.types.specs.declared.labels.Label.the-variants.{OfWindow, OfRequest, OfDns, OfKey, OfDocument}
 use Rattle.types.specs.declared.rows.HostCookie.{HostCookie}
 use Rattle.types.specs.declared.rows.LocalValue.{LocalValue}
 use Rattle.types.specs.declared.rows.StrictHost.{StrictHost}
 use Rattle.tables.specs.Tables.{Tables, windows, documents, cookies, localStorage, sessionStorage, inputs, pendingDNS, pendingRequests, sts}
-use Rattle.tables.specs.Labels.{host, Label, sameLabel, clean, isFresh}
+use Rattle.tables.specs.Labels.{host, Label, clean, isFresh}
 use Rattle.wim.specs.Step.{given, allFresh}
 use Rattle.tables.specs.View.{labelOf}
 use Rattle.labels.proofs.Laws.{no-host}
-use Rattle.fresh.specs.Wanted.{spare, allSpare}
+use Rattle.fresh.specs.Wanted.{allSpare}
 
 pub all-spare : (b : Tables) (ls : List Label) → allFresh b (given ls) ≡ allSpare b ls
 unfolding allFresh

@@ -59,13 +59,6 @@ pub fn empty() -> Inputs
     }
 }
 
-// How many rows count.
-pub fn size(t: Inputs) -> usize
-    ensures { λ r. ⌜ r ≡ length (take (t .count) (t .rows)) ⌝ }
-{
-    sorted::used(t.count, INPUTS)
-}
-
 // How a key stands to a row's.
 fn stands(document: DocumentNumber, arrival: u32, row: Input) -> sorted::Order
     ensures { λ r. ⌜ r ≡ cmp inputs (document .0, arrival) (keyOf inputs row) ⌝ }
@@ -241,6 +234,13 @@ pub fn put(t: Inputs, row: Input) -> Offer
         table: t,
         done: false,
     }
+}
+
+// How many rows count.
+pub fn size(t: Inputs) -> usize
+    ensures { λ r. ⌜ r ≡ length (take (t .count) (t .rows)) ⌝ }
+{
+    sorted::used(t.count, INPUTS)
 }
 
 // Whether no row speaks of a label.

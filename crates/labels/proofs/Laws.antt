@@ -2,7 +2,7 @@
 use mathlib.Core.Path.{_≡_, refl, ap, _∙_}
 use mathlib.Core.Bool.{Bool, true, false, cond, _||_, _&&_, not}
 use mathlib.Core.List.{List, [], _∷_, _++_}
-use mathlib.Core.Option.{Option, none, some}
+use mathlib.Core.Option.{Option, some}
 use Prim.Native.Nat.{ℕ}
 use Rattle.types.specs.declared.labels.Label.{Label as Mark}
 use Rattle.types.specs.declared.labels.Label.the-variants.{OfWindow, OfRequest, OfDns, OfKey, OfDocument}

@@ -9,7 +9,7 @@ use types::rows::LocalValue;
 ghost use mathlib.Core.Path.{_≡_};
 ghost use mathlib.Core.Bool.{not};
 ghost use mathlib.Core.List.{[]};
-ghost use lib.ListN.{take, length};
+ghost use lib.ListN.{take};
 ghost use Rattle.sorted.specs.Order.{same};
 ghost use Rattle.sorted.specs.Table.{find, keep, insert, stand, looked, opened, Sought, Offered};
 ghost use Rattle.tables.specs.Tables.{localStorage, keyOf, cmp, cap, isSecure};
@@ -52,13 +52,6 @@ pub fn empty() -> LocalStorage
         rows: [row; LOCAL_STORAGE],
         count: 0,
     }
-}
-
-// How many rows count.
-pub fn size(t: LocalStorage) -> usize
-    ensures { λ r. ⌜ r ≡ length (take (t .count) (t .rows)) ⌝ }
-{
-    sorted::used(t.count, LOCAL_STORAGE)
 }
 
 // How a key stands to a row's.

@@ -15,7 +15,7 @@ use Rattle.sorted.proofs.Member.{in-keep}
 use Rattle.sorted.proofs.Edits.{in-insert}
 use Rattle.sorted.proofs.Sorted.{sorted-acts}
 use Rattle.sorted.proofs.Lookup.{at-in}
-use Rattle.tables.specs.Tables.{Table, documents, pendingDNS, pendingRequests, Row, keyOf, cmp, Tables, Edits, changed, apply}
+use Rattle.tables.specs.Tables.{Table, documents, pendingDNS, pendingRequests, keyOf, cmp, Tables, Edits, changed, apply}
 use Rattle.wim.specs.Nouns.{KeyNumber, Address, Seal, Keyed, Document, Question, Waiting}
 use Rattle.wim.specs.Main.{waitingOf}
 use Rattle.tables.proofs.Update.{linear, update-one}

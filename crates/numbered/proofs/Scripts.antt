@@ -1,6 +1,6 @@
 -- A script's step is orderly, whatever its command.
 use mathlib.Core.Path.{refl}
-use mathlib.Core.Bool.{Bool, cond, not}
+use mathlib.Core.Bool.{Bool, not}
 use mathlib.Core.List.{List, [], _∷_, map}
 use mathlib.Core.Option.{Option, none, some}
 use Prim.Native.Nat.{ℕ}

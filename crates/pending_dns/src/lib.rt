@@ -9,7 +9,7 @@ use types::rows::Question;
 ghost use mathlib.Core.Path.{_≡_};
 ghost use mathlib.Core.Bool.{not};
 ghost use mathlib.Core.List.{[]};
-ghost use lib.ListN.{take, length};
+ghost use lib.ListN.{take};
 ghost use Rattle.sorted.specs.Order.{same};
 ghost use Rattle.sorted.specs.Table.{find, keep, insert, stand, looked, opened, Sought, Offered};
 ghost use Rattle.tables.specs.Tables.{pendingDNS, keyOf, cmp, cap};
@@ -58,13 +58,6 @@ pub fn empty() -> PendingDns
         rows: [row; PENDING_DNS],
         count: 0,
     }
-}
-
-// How many rows count.
-pub fn size(t: PendingDns) -> usize
-    ensures { λ r. ⌜ r ≡ length (take (t .count) (t .rows)) ⌝ }
-{
-    sorted::used(t.count, PENDING_DNS)
 }
 
 // How a key stands to a row's.

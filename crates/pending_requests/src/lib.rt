@@ -12,7 +12,7 @@ use types::rows::Waiting;
 ghost use mathlib.Core.Path.{_≡_};
 ghost use mathlib.Core.Bool.{not, _&&_};
 ghost use mathlib.Core.List.{[]};
-ghost use lib.ListN.{take, length};
+ghost use lib.ListN.{take};
 ghost use Rattle.sorted.specs.Order.{same};
 ghost use Rattle.sorted.specs.Table.{find, keep, insert, stand, looked, opened, Sought, Offered};
 ghost use Rattle.tables.specs.Tables.{pendingRequests, keyOf, cmp, cap};
@@ -65,13 +65,6 @@ pub fn empty() -> PendingRequests
         rows: [row; PENDING_REQUESTS],
         count: 0,
     }
-}
-
-// How many rows count.
-pub fn size(t: PendingRequests) -> usize
-    ensures { λ r. ⌜ r ≡ length (take (t .count) (t .rows)) ⌝ }
-{
-    sorted::used(t.count, PENDING_REQUESTS)
 }
 
 // How a key stands to a row's.

@@ -1,5 +1,5 @@
 -- The three ways in which a step's code ends: the program refuses (3, 4), the fresh numbers are not those (5), or they are, and 6 is left.
-use mathlib.Core.Path.{_≡_, refl, sym, _∙_, ap, subst}
+use mathlib.Core.Path.{_≡_, sym, ap, subst}
 use mathlib.Core.Bool.{Bool, true, false}
 use mathlib.Core.List.{List}
 use Rattle.types.specs.declared.browser.Browser.{Browser as State}

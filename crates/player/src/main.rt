@@ -1,4 +1,14 @@
-// Plays a run: items from standard input, a line for each on standard output (01 "The player's run").
+// Plays runs (01 "The player's run"): the one on standard input, a line for each item on standard output; or, where files are named, that of each from an
+// empty browser, under a line with its name.
+mod named; // the runs of files
+
+use libc::STDIN_FILENO;
+
 fn main() {
-    playing::play_all(true);
+    let words = os::arg_count();
+    if words < 2 {
+        playing::play_all(STDIN_FILENO, true);
+        return;
+    }
+    named::play_each(words);
 }

@@ -28,7 +28,7 @@ use Rattle.shapes.specs.Events.{Message, eventOf, messageOf}
 use Rattle.writing.specs.Wrote.{Long, Wrote}
 use Rattle.wim.specs.Step.{missingNumber, refusalNumber, Browser, Result, declined, accepted}
 use Rattle.wim.specs.Run.{eventLine, line, lineOf, after}
-use Rattle.wim.specs.View.{view, Told, told, settled}
+use Rattle.wim.specs.View.{view, Told, settled}
 use Rattle.draft.specs.Gives.{Answers}
 use Rattle.rehearsal.specs.Verdicts.{verdictNumber}
 use Rattle.playing.specs.declared.looking.Halt.the-variants.{Stopped}

@@ -1,4 +1,5 @@
-// A run from standard input. The input goes through a window of fixed size, so it may be of any length; an item is played as soon as it is whole.
+// A run from an input that is open for reading. The input goes through a window of fixed size, so it may be of any length; an item is played as soon as it is
+// whole.
 use crate::window::Run;
 use crate::window::turn;
 use rehearsal::empty;
@@ -9,7 +10,7 @@ const TURNS: u64 = 18446744073709551615;
 
 // The browser behind the run; its lines go to standard output where they are to be told. Of what comes from outside nothing can be promised: what is made of
 // each portion, `play` promises.
-pub fn play_all(loud: bool) -> Browser {
+pub fn play_all(input: i32, loud: bool) -> Browser {
     let mut window = io::large_buffer();
     let mut lines = io::large_buffer();
     let mut run = Run {
@@ -20,7 +21,7 @@ pub fn play_all(loud: bool) -> Browser {
     };
     let mut turns = TURNS;
     while 0 < turns {
-        run = turn(&mut window, &mut lines, run, loud);
+        run = turn(input, &mut window, &mut lines, run, loud);
         if run.over {
             return run.browser;
         }

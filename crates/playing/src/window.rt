@@ -4,7 +4,6 @@ ghost use lib.ListN.{length};
 ghost use Rattle.playing.specs.Keeps.{Keeps};
 use crate::looking::Halt;
 use crate::portions::play;
-use libc::STDIN_FILENO;
 use libc::STDOUT_FILENO;
 use types::browser::Browser;
 
@@ -32,11 +31,11 @@ fn keep(window: &mut [u8], from: usize, to: usize) -> usize
 }
 
 // Reads on behind the bytes that are held: how many came, and none at the end of the input.
-fn fill(window: &mut [u8], held: usize) -> usize
+fn fill(input: i32, window: &mut [u8], held: usize) -> usize
     requires { ⌜ held ≤ length (now window) ⌝ }
     ensures { λ r. ⌜ r ≤ length (now (window .exit)) - held ⌝ }
 {
-    let got = libc::read(STDIN_FILENO, &mut window[held..]);
+    let got = libc::read(input, &mut window[held..]);
     io::count(got, &window[held..])
 }
 
@@ -49,7 +48,7 @@ fn tell(loud: bool, lines: &[u8]) -> bool {
 }
 
 // Plays what is held and tells the lines. Where that may yet become an item, it reads on.
-pub fn turn(window: &mut [u8], lines: &mut [u8], run: Run, loud: bool) -> Run
+pub fn turn(input: i32, window: &mut [u8], lines: &mut [u8], run: Run, loud: bool) -> Run
     requires { ⌜ run .held ≤ length (now window) ⌝ }
     ensures { λ r. ⌜ r .held ≤ length (now (window .exit)) ⌝ }
 {
@@ -77,7 +76,7 @@ pub fn turn(window: &mut [u8], lines: &mut [u8], run: Run, loud: bool) -> Run
             over: !told,
         },
         Halt::Hungry => {
-            let n = fill(window, left);
+            let n = fill(input, window, left);
             Run {
                 browser,
                 held: left + n,

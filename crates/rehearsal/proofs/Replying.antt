@@ -25,7 +25,7 @@ use Rattle.reading.specs.Readings.{readingOf}
 use Rattle.writing.specs.Wrote.{Wrote}
 use Rattle.wim.specs.Step.{Browser, Result, declined, accepted, step}
 use Rattle.wim.specs.Run.{performed}
-use Rattle.wim.specs.View.{view, Told, told, settled}
+use Rattle.wim.specs.View.{view, Told, settled}
 use Rattle.wim.specs.Wire.{Reply, refusing, replying, rehearsing, rehearse}
 use Rattle.draft.specs.Gives.{Answers}
 use Rattle.rehearsal.specs.Rehearses.{Rehearses}

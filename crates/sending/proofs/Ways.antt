@@ -22,7 +22,7 @@ use Rattle.tables.specs.Rows.{jar, pairOf, sameHost, goesOver}
 use Rattle.shapes.specs.Events.{Message, resolve, messageOf}
 use Rattle.wim.specs.Program.{answer, strict, cookiesFor, Outcome, refused, made, run}
 use Rattle.wim.specs.Sending.{secured, questionOf, send}
-use Rattle.wim.specs.Step.{declined, fits, fitted, concluded}
+use Rattle.wim.specs.Step.{fits, fitted, concluded}
 use Rattle.wim.specs.View.{rowsOf}
 use Rattle.draft.specs.Holds.{Holds, Carries}
 use Rattle.draft.specs.Gives.{Answers, Concludes}

@@ -11,7 +11,7 @@ use types::rows::SessionValue;
 ghost use mathlib.Core.Path.{_≡_};
 ghost use mathlib.Core.Bool.{not};
 ghost use mathlib.Core.List.{[]};
-ghost use lib.ListN.{take, length};
+ghost use lib.ListN.{take};
 ghost use Rattle.sorted.specs.Order.{same};
 ghost use Rattle.sorted.specs.Table.{find, keep, insert, stand, looked, opened, Sought, Offered};
 ghost use Rattle.tables.specs.Tables.{sessionStorage, keyOf, cmp, cap, isSecure};
@@ -58,13 +58,6 @@ pub fn empty() -> SessionStorage
         rows: [row; SESSION_STORAGE],
         count: 0,
     }
-}
-
-// How many rows count.
-pub fn size(t: SessionStorage) -> usize
-    ensures { λ r. ⌜ r ≡ length (take (t .count) (t .rows)) ⌝ }
-{
-    sorted::used(t.count, SESSION_STORAGE)
 }
 
 // How a key stands to a row's.

@@ -1,6 +1,6 @@
 -- Events that go out, as terms (01 "The text": "Request headers stand as Cookie, Origin, Referer; Cookie is always there, even empty").
 use mathlib.Core.Bool.{cond}
-use mathlib.Core.List.{List, [], _∷_}
+use mathlib.Core.List.{List, []}
 use mathlib.Core.Option.{Option, none, some}
 use Prim.Native.Nat.{ℕ}
 use lib.ListN.{take}

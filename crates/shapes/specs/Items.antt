@@ -1,14 +1,14 @@
 -- Items: what is taken, part by part; what is not decoded here is refusal 2 (01 "The text"; the messages of 000 section 2.2).
-use mathlib.Core.Bool.{Bool, true, false, cond}
-use mathlib.Core.List.{List, [], _∷_}
-use mathlib.Core.Option.{Option, none, some}
+use mathlib.Core.Bool.{Bool, true, false}
+use mathlib.Core.List.{List, []}
+use mathlib.Core.Option.{none, some}
 use Prim.Native.Nat.{ℕ, zero, suc}
 use lib.ListN.{length, getD}
 use Rattle.sorted.specs.Table.{fill}
 use Rattle.csexp.specs.Text.{text}
-use Rattle.csexp.specs.Term.{Term, Terms, nil, cons}
+use Rattle.csexp.specs.Term.{nil, cons}
 use Rattle.csexp.specs.Decode.{Decoder, Fields, and-then, inside, one, end, upTo, perhaps, either, maps, word, means, numeral, emptyList, optionally, optionalOf, labelledOf}
-use Rattle.shapes.specs.Nouns.{WindowNumber, Fresh, Protocol, Plain, Secure, Fragment, Absent, Named, Url, Origin, CookieName, Cookie, SetCookies, Method, Matching, Unmatched, By, Policy, Unset, NoReferrer, OriginOnly, Target, NewWindow, Existing, Holder, Itself, Within, Addressee, Anyone, Only, Command, Nothing, Href, Iframe, Form, SetScript, SetScriptState, XmlHttpRequest, Back, Forward, Close, PostMessage, Location, Nowhere, To, Body, Number, Page, Headers, Reply, DnsAnswer, Output, Event, RunScript, Urlbar, Reload, GoForward, GoBack, CloseCorrupt, EncryptedAnswer, PlainAnswer, DnsResolved, Happening, Item}
+use Rattle.shapes.specs.Nouns.{WindowNumber, Fresh, Protocol, Plain, Secure, Fragment, Absent, Named, Url, Origin, CookieName, Cookie, SetCookies, Method, Matching, Unmatched, By, Policy, Unset, NoReferrer, OriginOnly, Target, NewWindow, Existing, Holder, Itself, Within, Addressee, Anyone, Only, Command, Nothing, Href, Iframe, Form, SetScript, SetScriptState, XmlHttpRequest, Back, Forward, Close, PostMessage, Location, Nowhere, To, Body, Number, Page, Headers, Reply, Event, RunScript, Urlbar, Reload, GoForward, GoBack, CloseCorrupt, EncryptedAnswer, PlainAnswer, DnsResolved, Happening, Item}
 use Rattle.shapes.specs.Words.{most16, most32, spellings, methodIn}
 
 -- ADDRESSES.

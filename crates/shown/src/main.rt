@@ -4,6 +4,7 @@
 mod asked; // the window's number
 mod telling; // the line
 
+use libc::STDIN_FILENO;
 use libc::STDOUT_FILENO;
 use types::labels::WindowNumber;
 
@@ -13,6 +14,6 @@ fn main() {
         io::write_all(STDOUT_FILENO, b"2\n");
         return;
     }
-    let b = playing::play_all(false);
+    let b = playing::play_all(STDIN_FILENO, false);
     telling::tell(b, WindowNumber(w));
 }

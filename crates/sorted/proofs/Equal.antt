@@ -1,18 +1,17 @@
 -- Two tables in order with the same rows are equal; and what follows from it.
 use mathlib.Core.Path.{_≡_, refl, sym, _∙_, ap}
 use mathlib.Core.Logic.{_⊎_, inl, inr}
-use mathlib.Core.Bool.{Bool, true, false, cond, not}
-use mathlib.Core.List.{List, [], _∷_, map}
-use mathlib.Core.Option.{Option, none, some}
+use mathlib.Core.Bool.{Bool, true, false, cond}
+use mathlib.Core.List.{List, [], _∷_}
+use mathlib.Core.Option.{none, some}
 use Rattle.sorted.specs.declared.Order.{Order}
 use Rattle.sorted.specs.declared.Order.the-variants.{Before, Same, After}
 use Rattle.sorted.specs.Order.{same, Linear}
-use Rattle.sorted.specs.Table.{find, keep, In, Edit, put, drop, Sorted, at, insert, remove, act, acts}
+use Rattle.sorted.specs.Table.{find, In, Edit, put, Sorted, at, insert, act, acts}
 use Rattle.sorted.proofs.Never.{never}
-use Rattle.sorted.proofs.Linear.{same-self, same-eq, same-ne}
-use Rattle.sorted.proofs.Member.{in-keep, keep-in}
-use Rattle.sorted.proofs.Sorted.{only, sorted-keep, sorted-only, sorted-insert, sorted-act, sorted-acts}
-use Rattle.sorted.proofs.Lookup.{effect, at-key, at-none, at-in, at-put-same, at-only, at-act, in-act-other}
+use Rattle.sorted.proofs.Linear.{same-self, same-eq}
+use Rattle.sorted.proofs.Sorted.{only, sorted-only, sorted-insert, sorted-act}
+use Rattle.sorted.proofs.Lookup.{effect, at-key, at-none, at-put-same, at-only, at-act, in-act-other}
 
 module _ {R K : Type 0} (key : R → K) (cmp : K → K → Order) (O : Linear K cmp) where
   -- EQUAL LOOKUPS, EQUAL TABLES.
@@ -65,14 +64,6 @@ module _ {R K : Type 0} (key : R → K) (cmp : K → K → Order) (O : Linear K 
                   rw (p, p′) at hk
 
   -- EQUAL MEMBERS, EQUAL TABLES.
-  pub ext-in : (l m : List R) → Sorted key cmp l → Sorted key cmp m → ((x : R) → In x l → In x m) → ((x : R) → In x m → In x l) → l ≡ m
-  ext-in l m s t f g = ext l m s t (λ k. go k (at key cmp k l) (at key cmp k m) refl refl)
-    where
-      go : (k : K) (o p : Option R) → at key cmp k l ≡ o → at key cmp k m ≡ p → at key cmp k l ≡ at key cmp k m
-      go k none none a b = a ∙ sym b
-      go k (some x) p a b = let z = at-key key cmp O k l x a in a ∙ sym (ap (λ (j : K). at key cmp j m) (z .1) ∙ at-in key cmp O m x t (f x (z .0)))
-      go k none (some y) a b = let z = at-key key cmp O k m y b in (ap (λ (j : K). at key cmp j l) (z .1) ∙ at-in key cmp O l y s (g y (z .0))) ∙ sym b
-
   -- A PART OF A TABLE: the rows whose keys pass p.
   pub same-at : (p : K → Bool) (l m : List R) → only key p l ≡ only key p m → (k : K) → p k ≡ true → at key cmp k l ≡ at key cmp k m
   same-at p l m e k s =
@@ -141,52 +132,3 @@ module _ {R K : Type 0} (key : R → K) (cmp : K → K → Order) (O : Linear K 
 
   pub in-put : (r : R) (l : List R) (x : R) → Sorted key cmp l → In x l → (key x ≡ key r → ⊥) → In x (insert key cmp r l)
   in-put r l x s i n = in-act-other key cmp O (put r) l x s i n
-
-  -- ROWS THAT GO, one key after the other.
-  in-drops : (ks : List K) (l : List R) (x : R) → In x (acts key cmp (map drop ks) l) → In x l × (In (key x) ks → ⊥)
-  in-drops [] l x i = (i, λ j. j)
-  in-drops (k ∷ ks) l x i =
-      let z = in-drops ks (remove key cmp k l) x i in
-      let y = in-keep (λ r. not (same (cmp k (key r)))) l x (z .0) in
-      (y .0, apart (y .1) (z .1))
-    where
-      apart : not (same (cmp k (key x))) ≡ true → (In (key x) ks → ⊥) → (key x ≡ k) ⊎ In (key x) ks → ⊥
-      apart p n (inl e) = let w : same (cmp k (key x)) ≡ true = ap (λ (j : K). same (cmp k j)) e ∙ same-self O k in let v : not true ≡ true = ap not (sym w) ∙ p in never (cc)
-      apart p n (inr j) = n j
-
-  drops-in : (ks : List K) (l : List R) (x : R) → In x l → (In (key x) ks → ⊥) → In x (acts key cmp (map drop ks) l)
-  drops-in [] l x i n = i
-  drops-in (k ∷ ks) l x i n =
-      drops-in ks (remove key cmp k l) x (keep-in (λ r. not (same (cmp k (key r)))) l x i (ap not (same-ne O k (key x) (λ e. n (inl (sym e)))))) (λ j. n (inr j))
-
-  key-in : (l : List R) (k : K) → In k (map key l) → (x : R) × In x l × (k ≡ key x)
-  key-in (x ∷ l) k (inl e) = (x, inl refl, e)
-  key-in (x ∷ l) k (inr i) = let z = key-in l k i in (z .0, inr (z .1), z .2)
-
-  in-key : (l : List R) (x : R) → In x l → In (key x) (map key l)
-  in-key (y ∷ l) x (inl e) = inl (ap key e)
-  in-key (y ∷ l) x (inr i) = inr (in-key l x i)
-
-  -- to drop the rows that pass a test is to keep those that do not
-  pub drop-keep : (q : R → Bool) (l : List R) → Sorted key cmp l → acts key cmp (map drop (map key (keep q l))) l ≡ keep (λ x. not (q x)) l
-  drop-keep q l s = ext-in (acts key cmp (map drop (map key (keep q l))) l) (keep (λ x. not (q x)) l) (sorted-acts key cmp O (map drop (map key (keep q l))) l s) (sorted-keep key cmp (λ x. not (q x)) l s) to from
-    where
-      not-passes : (x : R) → In x l → (In (key x) (map key (keep q l)) → ⊥) → (c : Bool) → q x ≡ c → not c ≡ true
-      not-passes x i n true e = absurd (n (in-key (keep q l) x (keep-in q l x i e)))
-      not-passes x i n false e = refl
-
-      to : (x : R) → In x (acts key cmp (map drop (map key (keep q l))) l) → In x (keep (λ x. not (q x)) l)
-      to x i = let z = in-drops (map key (keep q l)) l x i in keep-in (λ x. not (q x)) l x (z .0) (not-passes x (z .0) (z .1) (q x) refl)
-
-      from : (x : R) → In x (keep (λ x. not (q x)) l) → In x (acts key cmp (map drop (map key (keep q l))) l)
-      from x i = let z = in-keep (λ x. not (q x)) l x i in drops-in (map key (keep q l)) l x (z .0) (λ j. clash (key-in (keep q l) (key x) j) (z .0) (z .1))
-        where
-          clash : (y : R) × In y (keep q l) × (key x ≡ key y) → In x l → not (q x) ≡ true → ⊥
-          clash y i p =
-              let w = in-keep q l (y .0) (y .1) in
-              let a : at key cmp (key x) l ≡ some x = at-in key cmp O l x s i in
-              let b : at key cmp (key y.0) l ≡ some (y .0) = at-in key cmp O l (y .0) s (w .0) in
-              let e : some x ≡ some (y .0) = sym a ∙ (ap (λ (k : K). at key cmp k l) (y .2) ∙ b) in
-              let d : x ≡ y .0 = cc in
-              let v : not true ≡ true = ap not (sym (ap q d ∙ w .1)) ∙ p in
-              never (cc)

@@ -32,9 +32,6 @@ Touches key (put r) l k = k ≡ key r
 Touches key (drop j) l k = k ≡ j
 Touches {R} key (sift p) l k = (x : R) × In x l × (k ≡ key x) × (p x ≡ false)
 
-pub touches-key : {R K : Type 0} (key : R → K) (p : K → Bool) (l : List R) (k : K) → Touches key (sift (λ x. p (key x))) l k → p k ≡ false
-touches-key key p l k h = ap p (h .2) ∙ h .3
-
 module _ {R K : Type 0} (key : R → K) (cmp : K → K → Order) (O : Linear K cmp) where
   -- what is found has the key
   pub at-key : (k : K) (l : List R) (x : R) → at key cmp k l ≡ some x → In x l × (k ≡ key x)
@@ -126,18 +123,6 @@ module _ {R K : Type 0} (key : R → K) (cmp : K → K → Order) (O : Linear K 
           let n : at key cmp k l ≡ none = at-none k l (λ y i. ap (λ (j : K). cmp j (key y)) (same-eq O k (key x) f) ∙ s .0 y i) in
           ih ∙ ap (passing p) n ∙ (rw e)
       go false false e f ih = ih
-
-  -- of a test of keys the row is not asked
-  pub passing-key : (p : K → Bool) (k : K) (l : List R) → passing (λ x. p (key x)) (at key cmp k l) ≡ cond (p k) (at key cmp k l) none
-  passing-key p k l = go (at key cmp k l) refl
-    where
-      nothing : (b : Bool) → _≡_ {A = Option R} none (cond b none none)
-      nothing true = refl
-      nothing false = refl
-
-      go : (o : Option R) → at key cmp k l ≡ o → passing (λ x. p (key x)) o ≡ cond (p k) o none
-      go none e = nothing (p k)
-      go (some x) e = ap (λ (j : K). cond (p j) (some x) none) (sym (at-key k l x e .1))
 
   -- AFTER ANY EDIT of a table in order.
   pub at-act : (e : Edit R K) (k : K) (l : List R) → Sorted key cmp l → at key cmp k (act key cmp e l) ≡ effect key cmp e k (at key cmp k l)

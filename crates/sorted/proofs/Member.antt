@@ -127,11 +127,3 @@ module _ {A : Type 0} where
   pub looked-found : (found : Bool) (r : A) → isSome (looked found r) ≡ found
   looked-found true r = refl
   looked-found false r = refl
-
-  pub looked-some : (found : Bool) (r x : A) → looked found r ≡ some x → (found ≡ true) × (r ≡ x)
-  looked-some true r x e = (refl, (cc))
-  looked-some false r x e = never (cc)
-
-  pub looked-none : (found : Bool) (r : A) → looked found r ≡ none → found ≡ false
-  looked-none true r e = never (cc)
-  looked-none false r e = refl

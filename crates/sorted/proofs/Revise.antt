@@ -1,13 +1,13 @@
 -- Rows changed in place, where their keys stay: what is found, what is there, the order, the length.
-use mathlib.Core.Path.{_≡_, refl, sym, _∙_, ap}
-use mathlib.Core.Logic.{_⊎_, inl, inr}
+use mathlib.Core.Path.{_≡_, refl, _∙_, ap}
+use mathlib.Core.Logic.{inl, inr}
 use mathlib.Core.Bool.{Bool, true, false, cond}
 use mathlib.Core.List.{List, [], _∷_, map}
 use mathlib.Core.Option.{Option, none, some}
 use Prim.Native.Nat.{suc}
 use lib.ListN.{length}
 use Rattle.sorted.specs.declared.Order.{Order}
-use Rattle.sorted.specs.declared.Order.the-variants.{Before, Same, After}
+use Rattle.sorted.specs.declared.Order.the-variants.{Before}
 use Rattle.sorted.specs.Order.{same}
 use Rattle.sorted.specs.Table.{find, keep, In, Sorted, at}
 use Rattle.sorted.proofs.Sorted.{only}

@@ -1,5 +1,5 @@
 -- Tests put together: what passes, and what passes with it.
-use mathlib.Core.Path.{_≡_, refl, sym}
+use mathlib.Core.Path.{_≡_, refl}
 use mathlib.Core.Logic.{_⊎_, inl, inr}
 use mathlib.Core.Bool.{Bool, true, false, _&&_, _||_}
 use Rattle.sorted.proofs.Never.{never}
@@ -30,10 +30,3 @@ or-left false c e = never (cc)
 pub or-right : (b c : Bool) → c ≡ true → (b || c) ≡ true
 or-right true c e = refl
 or-right false c e = e
-
--- two tests that pass together are one
-pub both-ways : (b c : Bool) → (b ≡ true → c ≡ true) → (c ≡ true → b ≡ true) → b ≡ c
-both-ways true true f g = refl
-both-ways true false f g = sym (f refl)
-both-ways false true f g = g refl
-both-ways false false f g = refl

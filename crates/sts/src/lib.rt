@@ -6,7 +6,7 @@ use types::rows::StrictHost;
 ghost use mathlib.Core.Path.{_≡_};
 ghost use mathlib.Core.Bool.{not};
 ghost use mathlib.Core.List.{[]};
-ghost use lib.ListN.{take, length};
+ghost use lib.ListN.{take};
 ghost use Rattle.sorted.specs.Order.{same};
 ghost use Rattle.sorted.specs.Table.{find, keep, insert, stand, looked, opened, Sought, Offered};
 ghost use Rattle.tables.specs.Tables.{sts, keyOf, cmp, cap};
@@ -43,13 +43,6 @@ pub fn empty() -> Sts
         rows: [row; STS],
         count: 0,
     }
-}
-
-// How many rows count.
-pub fn size(t: Sts) -> usize
-    ensures { λ r. ⌜ r ≡ length (take (t .count) (t .rows)) ⌝ }
-{
-    sorted::used(t.count, STS)
 }
 
 // How a key stands to a row's.

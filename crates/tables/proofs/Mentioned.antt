@@ -1,10 +1,10 @@
 -- Which numbers stand in a row, computed at one row of each table whose numbers are all different (01, refusal 5: "anywhere in the tables under
 -- its label, references included").
 use mathlib.Core.Path.{_≡_, refl}
-use mathlib.Core.Bool.{false, true}
+use mathlib.Core.Bool.{true}
 use mathlib.Core.List.{[], _∷_}
-use Rattle.tables.specs.Nouns.{Plain, Get, Unsent, Unknown, Absent, Unset, Unmatched, Number, Url, Origin, Request, Req, Xhr, Keyed, Under, OpenedBy, Answered, Posted, Window, Document, HostCookie, LocalValue, SessionValue, Input, Question, Waiting, StrictHost}
-use Rattle.tables.specs.Tables.{windows, documents, cookies, localStorage, sessionStorage, inputs, pendingDNS, pendingRequests, sts}
+use Rattle.tables.specs.Nouns.{Plain, Get, Unsent, Unknown, Absent, Unset, Unmatched, Number, Url, Origin, Request, Req, Xhr, Keyed, Under, OpenedBy, Answered, Posted}
+use Rattle.tables.specs.Tables.{windows, documents, cookies, sessionStorage, inputs, pendingDNS, pendingRequests}
 use Rattle.tables.specs.Labels.{window, request, dns, key, document, host, mentions}
 use Rattle.tables.specs.Rows.{jar}
 

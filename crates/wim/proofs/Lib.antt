@@ -5,6 +5,4 @@ pub mod Pigeon
 pub mod Walks
 pub mod Navigable
 pub mod Mask
-pub mod Least
 pub mod Shown
-pub mod Marks

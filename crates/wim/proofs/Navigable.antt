@@ -211,10 +211,3 @@ module _ (ws : List Window) (ds : List Document) (o : Origin) (w v : WindowNumbe
 
   pub navigable-complete : Navigable ws ds o w v → mayNavigate ws ds o w v ≡ true
   navigable-complete c = follows-next ws ds o w (length ws) v (navigable-within c)
-
-  -- every member is in Subwindows, and so has a row
-  pub navigable-reached : Navigable ws ds o w v → isReached ws ds v ≡ true
-  navigable-reached (same-origin r h) = r
-  navigable-reached (top-level r h) = r
-  navigable-reached (ancestor r c h) = r
-  navigable-reached (opened r e q c) = r

@@ -5,7 +5,6 @@ use mathlib.Core.List.{List}
 use mathlib.Core.Option.{Option, none, some}
 use Prim.Native.Nat.{ℕ, zero, _/_, _%_, _^_, _≤_, _<_}
 use lib.ListN.{length, getD}
-use lib.Pow.{pow-pos}
 use lib.Count.{ones, trailingZeros}
 use Rattle.sorted.specs.Order.{bit}
 use Rattle.sorted.specs.Table.{find, keep}
@@ -15,22 +14,13 @@ use Rattle.wim.specs.Walks.{activeDocument, isReached}
 use Rattle.wim.specs.Navigable.{Navigable, mayNavigate, maskOf, whenShown, navigableMask, navigableSize}
 use Rattle.sorted.proofs.Never.{never}
 use Rattle.wim.proofs.Navigable.{navigable-sound, navigable-complete}
-use Rattle.wim.proofs.Mask.{mask-below, mask-bit, mask-ones, mask-first}
+use Rattle.wim.proofs.Mask.{mask-bit, mask-ones, mask-first}
 
 bit-true : (b : Bool) → bit b ≡ 1 → b ≡ true
 bit-true true e = refl
 bit-true false e = never e
 
 module _ (ws : List Window) (ds : List Document) (w : WindowNumber) where
-  pub navigable-below : navigableMask ws ds w < 2 ^ length ws
-  unfolding navigableMask
-  navigable-below = go (isReached ws ds w) (activeDocument ds w)
-    where
-      go : (b : Bool) (a : Option Document) → whenShown b a (λ o. maskOf (mayNavigate ws ds o w) ws) < 2 ^ length ws
-      go false a = pow-pos (length ws)
-      go true none = pow-pos (length ws)
-      go true (some d) = mask-below (mayNavigate ws ds (originOf d) w) ws
-
   -- "its size is the count of those bits"
   pub navigable-ones : ones (navigableMask ws ds w) ≡ navigableSize ws ds w
   unfolding navigableMask navigableSize ones

@@ -53,9 +53,6 @@ module _ (ws : List Window) (ds : List Document) where
       go topmost e ih = e
       go (heldBy d) e ih = further d (d .active) e (ih (d .window) t)
 
-  pub reached-more : (n m : ℕ) (v t : WindowNumber) → n ≤ m → reachedFrom n ws ds v ≡ some t → reachedFrom m ws ds v ≡ some t
-  reached-more n m v t l e = le-ind (λ (k : ℕ). reachedFrom k ws ds v ≡ some t) e (λ k h. reached-next k v t) m l
-
   -- REACHED WINDOWS.
   -- the window above through an active document is reached from the same top-level window, with a step less
   pub reached-up : (n : ℕ) (v t : WindowNumber) (d : Document) → above ws ds v ≡ heldBy d → reachedFrom (suc n) ws ds v ≡ some t → (d .active ≡ true) × (reachedFrom n ws ds (d .window) ≡ some t)

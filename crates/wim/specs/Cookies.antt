@@ -1,14 +1,10 @@
 -- Cookies: which are sent, which a script may set, which an answer may set (000 Definitions 14, 36 and 37; RFC 6265 where it is silent).
-use mathlib.Core.Bool.{Bool, true, false, cond, not, _&&_, _||_}
+use mathlib.Core.Bool.{Bool, false, cond, not, _&&_, _||_}
 use mathlib.Core.List.{List, [], _∷_, map}
-use Prim.Native.Nat.{ℕ}
-use lib.Dec.{eqb}
-use lib.ListN.{length}
-use Rattle.sorted.specs.Order.{cmpBool, same}
-use Rattle.sorted.specs.Table.{keep, fill, Edit, put}
+use Rattle.sorted.specs.Table.{keep, put}
 use Rattle.tables.specs.Tables.{isSecure, cookies, Edits}
 use Rattle.tables.specs.Rows.{sameName}
-use Rattle.wim.specs.Nouns.{Host, Protocol, CookieName, Cookie, Pair, Jar, HostCookie}
+use Rattle.wim.specs.Nouns.{Host, Protocol, CookieName, Cookie, HostCookie}
 
 -- "(c.name.1 ≡ __Host) ∧ ((protocol ≡ P) ∨ (c.secure ≡ ⊥))": no such cookie is ever taken
 abbrev pub badPrefix : Protocol → Cookie → Bool

@@ -1,15 +1,15 @@
 -- 000 Algorithms 5 and 6, NAVBACK and NAVFORWARD; and how a document's fields are set.
-use mathlib.Core.Bool.{Bool, true, false, cond, _&&_}
-use mathlib.Core.List.{List, [], _∷_}
+use mathlib.Core.Bool.{true, false}
+use mathlib.Core.List.{List}
 use mathlib.Core.Option.{Option, none, some}
 use Prim.Native.Nat.{ℕ, suc}
 use lib.Dec.{eqb}
-use Rattle.sorted.specs.Table.{find, Edit}
+use Rattle.sorted.specs.Table.{find}
 use Rattle.tables.specs.Tables.{documents}
-use Rattle.tables.specs.Rows.{sameWindow, sameDocument, settingActive}
-use Rattle.wim.specs.Nouns.{WindowNumber, DocumentNumber, Script, ScriptState, Bare, Document, Stopped}
+use Rattle.tables.specs.Rows.{settingActive}
+use Rattle.wim.specs.Nouns.{WindowNumber, Bare, Document, Stopped}
 use Rattle.wim.specs.Walks.{activeAmong}
-use Rattle.wim.specs.Program.{Program, ask, edit, revise, refuse, done, history, _>>=_, _>>_}
+use Rattle.wim.specs.Program.{Program, ask, revise, refuse, done, history, _>>=_, _>>_}
 use Rattle.wim.specs.Sending.{cancelNav}
 
 -- the document before, and the document after another in its history

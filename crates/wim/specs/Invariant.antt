@@ -3,7 +3,7 @@ use mathlib.Core.Path.{_≡_}
 use mathlib.Core.Logic.{_⊎_}
 use mathlib.Core.Bool.{true}
 use mathlib.Core.Option.{Option, some}
-use Prim.Native.Nat.{ℕ, suc, _≤_}
+use Prim.Native.Nat.{suc, _≤_}
 use lib.ListN.{length}
 use Rattle.sorted.specs.Table.{In, Sorted}
 use Rattle.tables.specs.Tables.{Table, windows, documents, inputs, pendingDNS, pendingRequests, keyOf, cmp, cap, Tables, noRows}

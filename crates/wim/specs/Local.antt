@@ -1,12 +1,12 @@
 -- Local steps: which they are, where they stand, their hosts, the numbers that they name (01 "Local steps, for demand 3").
-use mathlib.Core.Bool.{Bool, true, false, cond}
+use mathlib.Core.Bool.{Bool, true, false}
 use mathlib.Core.List.{List, [], _∷_, _++_}
 use mathlib.Core.Option.{Option, none, some}
 use Prim.Native.Nat.{ℕ}
 use Rattle.tables.specs.Tables.{windows, documents, Tables}
 use Rattle.tables.specs.Labels.{Kind, window, request, dns, key, document, host, Label, leads}
 use Rattle.tables.specs.Rows.{sameWindow}
-use Rattle.wim.specs.Nouns.{WindowNumber, DocumentNumber, Host, Url, Reference, Req, Xhr, Target, NewWindow, Existing, Holder, Itself, Within, Command, Nothing, Href, Iframe, Form, SetScript, SetScriptState, XmlHttpRequest, Back, Forward, Close, PostMessage, Answer, Event, RunScript, Urlbar, Reload, GoForward, GoBack, CloseCorrupt, EncryptedAnswer, PlainAnswer, DnsResolved, Document, Question, Waiting}
+use Rattle.wim.specs.Nouns.{WindowNumber, Host, Url, Reference, Req, Xhr, Target, NewWindow, Existing, Holder, Itself, Within, Command, Nothing, Href, Iframe, Form, SetScript, SetScriptState, XmlHttpRequest, Back, Forward, Close, PostMessage, Answer, Event, RunScript, Urlbar, Reload, GoForward, GoBack, CloseCorrupt, EncryptedAnswer, PlainAnswer, DnsResolved, Document, Question, Waiting}
 use Rattle.wim.specs.Walks.{documentNumbered, steps, topAbove}
 use Rattle.wim.specs.Program.{active, question, keyless, keyed, answer}
 use Rattle.wim.specs.Response.{whereTo}

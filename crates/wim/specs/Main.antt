@@ -1,16 +1,15 @@
 -- 000 Algorithm 9, the main algorithm: a program for each event.
-use mathlib.Core.Bool.{Bool, true, false, cond, not}
+use mathlib.Core.Bool.{false, not}
 use mathlib.Core.List.{List, [], _∷_}
 use mathlib.Core.Option.{Option, none, some}
-use Prim.Native.Nat.{ℕ}
 use lib.Dec.{eqb}
 use lib.ListN.{take}
-use Rattle.sorted.specs.Table.{Edit, put, drop, sift}
+use Rattle.sorted.specs.Table.{put, drop, sift}
 use Rattle.tables.specs.Tables.{windows, documents, cookies, sessionStorage, inputs, pendingDNS, pendingRequests, keyOf}
 use Rattle.tables.specs.Labels.{window, key}
 use Rattle.shapes.specs.Events.{unsealed, sealed}
 use Rattle.tables.specs.Rows.{sameHost}
-use Rattle.wim.specs.Nouns.{WindowNumber, KeyNumber, Host, Address, Protocol, Plain, Secure, Url, Cookie, SetCookies, Get, Unsent, Referrer, Unknown, Unset, Reference, Req, Bare, Sending, Seal, Keyless, Keyed, Target, NewWindow, Existing, Answer, DnsAnswer, Event, RunScript, Urlbar, Reload, GoForward, GoBack, CloseCorrupt, EncryptedAnswer, PlainAnswer, DnsResolved, Item, Nobody, Window, Document, HostCookie, SessionValue, Input, Question, Waiting, NoWindow, NoDocument, NoQuestion, NoRequest, Mismatch}
+use Rattle.wim.specs.Nouns.{WindowNumber, Address, Protocol, Plain, Secure, Url, Cookie, SetCookies, Get, Unsent, Referrer, Unknown, Unset, Reference, Req, Bare, Sending, Seal, Keyless, Keyed, Target, NewWindow, Existing, Answer, DnsAnswer, Event, RunScript, Urlbar, Reload, GoForward, GoBack, CloseCorrupt, EncryptedAnswer, PlainAnswer, DnsResolved, Nobody, Document, HostCookie, Question, Waiting, NoWindow, NoDocument, NoQuestion, NoRequest, Mismatch}
 use Rattle.wim.specs.Program.{Program, ask, edit, bring, done, reached, topLevel, active, question, keyless, keyed, needs, refuseUnless, _>>=_, _>>_}
 use Rattle.wim.specs.Sending.{cancelNav, send}
 use Rattle.wim.specs.History.{navBack, navForward}

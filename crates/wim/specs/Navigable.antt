@@ -1,7 +1,7 @@
 -- 000 Definition 38: the windows that the active document of a window may navigate, as the least set under its four rules; and how it is
 -- computed, as a test, as a mask with a bit for each window row, and as its size.
 use mathlib.Core.Path.{_≡_}
-use mathlib.Core.Bool.{Bool, true, false, cond, _&&_, _||_}
+use mathlib.Core.Bool.{Bool, true, false, _&&_, _||_}
 use mathlib.Core.List.{List, [], _∷_}
 use mathlib.Core.Option.{Option, none, some}
 use Prim.Native.Nat.{ℕ, zero, suc, _+_, _*_}

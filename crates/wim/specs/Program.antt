@@ -1,7 +1,6 @@
 -- How a step is written: a small program that looks at the browser by a fixed list of questions, puts and drops rows of one table at a time,
 -- changes rows in place (their keys stay), takes fresh numbers, refuses, or is done with a message or none. `run` is its only interpreter.
-use mathlib.Core.Path.{_≡_}
-use mathlib.Core.Bool.{Bool, true, false, cond, not, _&&_, _||_}
+use mathlib.Core.Bool.{Bool, true, false, cond, _&&_}
 use mathlib.Core.List.{List, [], _∷_, map}
 use mathlib.Core.Option.{Option, none, some}
 use Prim.Native.Nat.{ℕ}
@@ -12,7 +11,7 @@ use Rattle.tables.specs.Tables.{Table, windows, documents, cookies, inputs, pen
 use Rattle.tables.specs.Labels.{Kind, code, Label}
 use Rattle.shapes.specs.Events.{Message}
 use Rattle.tables.specs.Rows.{sameDocument, originOf, sameHost, goesOver, hasKey, hasNoKey}
-use Rattle.wim.specs.Nouns.{WindowNumber, DocumentNumber, RequestNumber, DnsNumber, KeyNumber, Host, Address, Protocol, Parent, Top, Under, Window, Document, HostCookie, Input, Question, Waiting, Request, Seal, Keyless, Keyed, Refusal, Lacking, Stopped, NotFresh, Missing}
+use Rattle.wim.specs.Nouns.{WindowNumber, DocumentNumber, RequestNumber, DnsNumber, KeyNumber, Host, Protocol, Top, Under, Window, Document, HostCookie, Input, Question, Waiting, Refusal, Lacking, Stopped, NotFresh, Missing}
 use Rattle.wim.specs.Walks.{documentsOf, activeDocument, windowNumbered, documentNumbered, hasOrigin, steps, reachedFrom, isReached, Removal, removal}
 use Rattle.wim.specs.Navigable.{mayNavigate}
 

@@ -5,11 +5,11 @@ use mathlib.Core.Option.{Option, none, some}
 use Prim.Native.Nat.{ℕ, suc}
 use lib.Dec.{eqb, ltb, leb}
 use lib.ListN.{length}
-use Rattle.sorted.specs.Table.{keep, isSome, Edit, put, drop}
+use Rattle.sorted.specs.Table.{keep, put, drop}
 use Rattle.tables.specs.Tables.{documents, cookies, inputs, pendingRequests, sts, isSecure, Edits}
 use Rattle.tables.specs.Labels.{document}
 use Rattle.tables.specs.Rows.{sameOrigin, settingActive}
-use Rattle.wim.specs.Nouns.{WindowNumber, DocumentNumber, Url, Origin, Fragment, Absent, Named, Cookie, Method, Get, Data, OriginHeader, Unsent, Null, From, Matching, Reference, Req, Xhr, Request, Sending, Script, ScriptState, Status, Location, Nowhere, To, Body, Number, Page, Answer, Document, Waiting, StrictHost, Answered}
+use Rattle.wim.specs.Nouns.{WindowNumber, Url, Origin, Fragment, Absent, Named, Cookie, Method, Get, OriginHeader, Unsent, Null, From, Matching, Reference, Req, Xhr, Sending, Script, ScriptState, Status, Location, Nowhere, To, Body, Number, Page, Answer, Document, Waiting, Answered}
 use Rattle.wim.specs.Walks.{activeAmong}
 use Rattle.wim.specs.Cookies.{addCookies}
 use Rattle.wim.specs.Program.{Program, ask, edit, revise, bring, done, reached, history, listening, arrived, under, _>>=_, _>>_}

@@ -1,17 +1,15 @@
 -- The player's run: items one behind the other, a line for each (01 "The player's run").
-use mathlib.Core.Bool.{Bool, true, false, cond}
 use mathlib.Core.List.{List, [], _∷_, _++_}
 use mathlib.Core.Option.{Option, none, some}
 use Prim.Native.Nat.{ℕ, zero, suc}
 use lib.ListN.{length, take, drop}
 use Rattle.csexp.specs.Text.{text}
 use Rattle.csexp.specs.Term.{decimal, write}
-use Rattle.csexp.specs.declared.text.Ending.{Ending}
 use Rattle.csexp.specs.declared.text.Ending.the-variants.{Whole, Broken}
 use Rattle.csexp.specs.Limits.{itemBytes, itemLevels, endingOf}
 use Rattle.shapes.specs.Texts.{Taken, unread, item, itemIn}
 use Rattle.shapes.specs.Events.{Message, eventOf}
-use Rattle.wim.specs.Nouns.{Refusal, BadText}
+use Rattle.wim.specs.Nouns.{BadText}
 use Rattle.wim.specs.Step.{refusalNumber, Browser, Result, declined, accepted, step}
 
 -- "the outgoing event, () for none, or the refusal number alone"

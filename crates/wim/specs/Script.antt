@@ -1,15 +1,15 @@
 -- 000 Algorithms 1, 2 and 7: GETNAVIGABLEWINDOW, GETWINDOW and RUNSCRIPT with each of its commands.
 -- Where a line of 000 stops without output, nothing has changed (2.6.3). So those lines stand first in each command, before what the step stores.
-use mathlib.Core.Bool.{Bool, true, false, cond, not, _&&_, _||_}
+use mathlib.Core.Bool.{Bool, true, false, cond, not}
 use mathlib.Core.List.{List, [], _∷_, map}
 use mathlib.Core.Option.{Option, none, some}
 use Prim.Native.Nat.{ℕ, suc}
 use lib.Dec.{eqb}
-use Rattle.sorted.specs.Table.{Edit, put, drop, sift}
+use Rattle.sorted.specs.Table.{put, drop, sift}
 use Rattle.tables.specs.Tables.{windows, documents, cookies, localStorage, sessionStorage, inputs, Edits, isSecure}
 use Rattle.tables.specs.Labels.{window}
 use Rattle.tables.specs.Rows.{oneOf, windowOneOf, originOf, sameOrigin, withState, withScript, changing}
-use Rattle.wim.specs.Nouns.{WindowNumber, DocumentNumber, Url, Origin, Parameters, Cookie, HostCookie, Method, Get, Head, Post, Put, Delete, Connect, Options, Trace, Data, OriginHeader, Unsent, Null, From, Referrer, Known, Policy, Unset, NoReferrer, OriginOnly, Reference, Req, Xhr, Cancelled, Bare, Labelled, Sending, Target, NewWindow, Existing, Holder, Itself, Within, Addressee, Anyone, Only, Command, Nothing, Href, Iframe, Form, SetScript, SetScriptState, XmlHttpRequest, Back, Forward, Close, PostMessage, Stored, Output, Parent, Top, Under, Opener, Nobody, OpenedBy, Window, Document, LocalValue, SessionValue, Input, News, Answered, Posted, NoWindow, NoDocument}
+use Rattle.wim.specs.Nouns.{WindowNumber, DocumentNumber, Url, Origin, Parameters, Cookie, Method, Get, Head, Post, Put, Delete, Connect, Options, Trace, Data, OriginHeader, Unsent, From, Known, Policy, NoReferrer, Reference, Req, Xhr, Labelled, Sending, Target, NewWindow, Existing, Holder, Itself, Within, Addressee, Anyone, Only, Command, Nothing, Href, Iframe, Form, SetScript, SetScriptState, XmlHttpRequest, Back, Forward, Close, PostMessage, Stored, Output, Top, Under, Opener, Nobody, OpenedBy, Window, Document, Input, News, Posted, NoWindow, NoDocument}
 use Rattle.wim.specs.Walks.{Removal}
 use Rattle.wim.specs.Cookies.{cookieMerge, storeAll}
 use Rattle.wim.specs.Program.{Program, ask, edit, revise, bring, done, reached, active, history, navigated, ofOrigin, arrived, under, cookiesOf, needs, stopIf, _>>=_, _>>_}

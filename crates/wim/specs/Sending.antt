@@ -1,15 +1,14 @@
 -- 000 Algorithms 3 and 4: CANCELNAV and HTTP_SEND.
-use mathlib.Core.Bool.{Bool, true, false, cond, not, _&&_}
-use mathlib.Core.List.{List, [], _∷_, map}
-use mathlib.Core.Option.{Option, none, some}
+use mathlib.Core.Bool.{Bool, false, cond, not}
+use mathlib.Core.List.{[], _∷_, map}
+use mathlib.Core.Option.{some}
 use Prim.Native.Nat.{ℕ}
-use lib.Dec.{eqb}
-use Rattle.sorted.specs.Table.{Edit, put, sift}
+use Rattle.sorted.specs.Table.{put, sift}
 use Rattle.tables.specs.Tables.{pendingDNS, pendingRequests}
 use Rattle.tables.specs.Labels.{request, dns}
 use Rattle.shapes.specs.Events.{resolve}
-use Rattle.tables.specs.Rows.{sameWindow, sameDocument, pairOf, jar, sameReference}
-use Rattle.wim.specs.Nouns.{Url, Plain, Secure, Absent, Parameters, Data, Jar, Reference, Req, Xhr, Matching, Unmatched, By, Cancelled, Bare, Labelled, Referrer, Unknown, Known, Policy, Unset, NoReferrer, OriginOnly, Request, Sending, Question, Waiting}
+use Rattle.tables.specs.Rows.{pairOf, jar, sameReference}
+use Rattle.wim.specs.Nouns.{Url, Secure, Absent, Jar, Reference, Cancelled, Bare, Labelled, Referrer, Unknown, Known, Policy, Unset, NoReferrer, OriginOnly, Request, Sending, Question, Waiting}
 use Rattle.wim.specs.Program.{Program, ask, edit, bring, done, strict, cookiesFor, _>>=_, _>>_}
 
 -- ALGORITHM 3, CANCELNAV(reference, s').

@@ -1,6 +1,6 @@
 -- What a script is shown: 000 Definition 35 (Clean) and Algorithm 7, lines 2 to 9; as one term. Identities and secrets are outside (01).
 use mathlib.Core.Bool.{Bool, true, false, cond, not, _&&_}
-use mathlib.Core.List.{List, [], _∷_}
+use mathlib.Core.List.{List}
 use mathlib.Core.Option.{Option, none, some}
 use Prim.Native.Nat.{ℕ, zero, suc}
 use Rattle.csexp.specs.Text.{text}

@@ -1,6 +1,5 @@
 -- What the code's values mean, and what an answer of the code must be.
-use mathlib.Core.List.{List}
-use mathlib.Core.Option.{Option, none, some}
+use mathlib.Core.Option.{Option, none}
 use lib.ListN.{take}
 use Rattle.tables.specs.Tables.{windows, documents, cookies, localStorage, sessionStorage, inputs, pendingDNS, pendingRequests, sts, Tables}
 use Rattle.shapes.specs.Events.{Message, messageOf}

@@ -1,14 +1,13 @@
 -- Windows and the documents that hold them: what is reached, what stands above, what stands under (000 Definitions 29 to 31 and 34).
 -- Parents are followed upward, at most 32 steps (01 "What a step does").
-use mathlib.Core.Bool.{Bool, true, false, cond, not, _&&_, _||_}
-use mathlib.Core.List.{List, [], _∷_, map}
+use mathlib.Core.Bool.{Bool, false, cond, _||_}
+use mathlib.Core.List.{List, map}
 use mathlib.Core.Option.{Option, none, some}
 use Prim.Native.Nat.{ℕ, zero, suc}
-use lib.Dec.{eqb}
 use Rattle.sorted.specs.Table.{find, keep, isSome, at}
 use Rattle.tables.specs.Tables.{windows, keyOf, cmp}
 use Rattle.tables.specs.Rows.{sameWindow, sameDocument, oneOf, originOf, sameOrigin}
-use Rattle.wim.specs.Nouns.{WindowNumber, DocumentNumber, Protocol, Plain, Secure, Origin, Window, Document, Parent, Top, Under}
+use Rattle.wim.specs.Nouns.{WindowNumber, DocumentNumber, Origin, Window, Document, Parent, Top, Under}
 
 -- the documents of a window in the order of its history, and the active one among them (Definition 29)
 unfoldable pub documentsOf : List Document → WindowNumber → List Document

@@ -56,13 +56,6 @@ pub fn empty() -> Windows
     }
 }
 
-// How many rows count.
-pub fn size(t: Windows) -> usize
-    ensures { λ r. ⌜ r ≡ length (take (t .count) (t .rows)) ⌝ }
-{
-    sorted::used(t.count, WINDOWS)
-}
-
 // How a key stands to a row's.
 fn stands(number: WindowNumber, row: Window) -> sorted::Order
     ensures { λ r. ⌜ r ≡ cmp windows (number .0) (keyOf windows row) ⌝ }
@@ -232,6 +225,13 @@ pub fn put(t: Windows, row: Window) -> Offer
         table: t,
         done: false,
     }
+}
+
+// How many rows count.
+pub fn size(t: Windows) -> usize
+    ensures { λ r. ⌜ r ≡ length (take (t .count) (t .rows)) ⌝ }
+{
+    sorted::used(t.count, WINDOWS)
 }
 
 // Whether no row speaks of a label.

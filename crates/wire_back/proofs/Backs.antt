@@ -3,7 +3,7 @@ use mathlib.Core.Path.{_≡_, refl, sym, ap, subst, _∙_}
 use mathlib.Core.Bool.{Bool, true, false, cond}
 use mathlib.Core.List.{List, [], append-nil}
 use mathlib.Core.Option.{some}
-use Prim.Native.Nat.{ℕ, _≤_}
+use Prim.Native.Nat.{ℕ}
 use native.Mathlib.Omega.{arith}
 use Rattle.csexp.specs.Text.{text}
 use Rattle.csexp.specs.Term.{Terms, nil, cons, atom, list, write}
@@ -15,7 +15,7 @@ use Rattle.csexp_write.proofs.Backs.{Gives, Holds, Denies, in-list, then-one, a
 use Rattle.shapes.specs.Nouns.{Protocol, Plain, Secure, Fragment, Absent, Named, Url, Origin, CookieName, Pair, Jar, Method, Get, Head, Post, Put, Delete, Connect, Options, Trace, OriginHeader, Unsent, Null, From, Referrer, Unknown, Known, Request}
 use Rattle.shapes.specs.Items.{protocolOf, fragmentOf, urlOf, originOf, nameOf, methodOf, headerOf}
 use Rattle.shapes.specs.Events.{protocolTerm, fragmentTerm, urlTerm, methodTerm, nameTerm, pairTerm, originTerm, originHeader, refererHeader, headersTerm, requestTerm, Message, resolve, unsealed, sealed, eventOf}
-use Rattle.wire_back.specs.Outgoing.{pairOf, jar, originHeaderOf, Carried, behindCookie, headersOf, requestOf, sentOf, whole, sentIn}
+use Rattle.wire_back.specs.Outgoing.{pairOf, jar, originHeaderOf, behindCookie, headersOf, requestOf, sentOf, whole, sentIn}
 use Rattle.wire_back.specs.Within.{In, FragmentIn, UrlIn, PairIn, OriginIn, ReferrerIn, pairs, RequestIn, MessageIn}
 
 protocol-back : (p : Protocol) → Gives protocolOf (protocolTerm p) p

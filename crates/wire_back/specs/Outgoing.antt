@@ -1,7 +1,7 @@
 -- Events that go out, read off terms: the mirror of how they are written (shapes' Events).
-use mathlib.Core.Bool.{Bool, true, false, cond}
+use mathlib.Core.Bool.{false, cond}
 use mathlib.Core.List.{List, [], _∷_}
-use mathlib.Core.Option.{Option, none, some}
+use mathlib.Core.Option.{Option, none}
 use Prim.Native.Nat.{ℕ}
 use lib.ListN.{length}
 use lib.Dec.{eqb}
@@ -10,7 +10,7 @@ use Rattle.csexp.specs.Text.{text}
 use Rattle.csexp.specs.Term.{Term}
 use Rattle.csexp.specs.Read.{Got, no, got, read}
 use Rattle.csexp.specs.Decode.{Decoder, Fields, inside, one, end, upTo, perhaps, either, maps, word, means, numeral, optionalOf, labelledOf}
-use Rattle.shapes.specs.Nouns.{Host, Address, DnsNumber, KeyNumber, Pair, Jar, OriginHeader, Unsent, Null, From, Referrer, Unknown, Known, Request}
+use Rattle.shapes.specs.Nouns.{KeyNumber, Pair, Jar, OriginHeader, Unsent, Null, From, Referrer, Unknown, Known, Request}
 use Rattle.shapes.specs.Words.{most16, most32}
 use Rattle.shapes.specs.Items.{urlOf, originOf, nameOf, methodOf, headerOf}
 use Rattle.shapes.specs.Events.{Message, resolve, unsealed, sealed}

@@ -1,7 +1,6 @@
 -- What the code can hold of each type, by the type itself: its numbers are small, and an array has as many rows as it says.
 use mathlib.Core.List.{List, [], _∷_, map}
-use mathlib.Core.Option.{Option, none, some}
-use Prim.Native.Nat.{ℕ, zero, suc, _≤_, min}
+use Prim.Native.Nat.{ℕ, zero, suc, _≤_}
 use native.Mathlib.Omega.{arith}
 use lib.ListN.{length, take, length-take}
 use mir.Val.{Val}

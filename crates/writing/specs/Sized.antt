@@ -1,5 +1,4 @@
 -- The numbers of a message have at most 32 bits, and its cookies are at most 64, as in every value that the code can hold: then its text is short.
-use mathlib.Core.List.{List}
 use mathlib.Core.Option.{Option, none, some}
 use Prim.Native.Nat.{ℕ, _≤_}
 use lib.ListN.{length, take}

@@ -7,7 +7,7 @@ use Prim.Native.Nat.{ℕ, _≤_}
 use lib.ListN.{length}
 use Rattle.csexp.specs.Term.{write}
 use Rattle.csexp_write.specs.declared.Written.{Written}
-use Rattle.csexp_write.specs.declared.Written.the-variants.{Bytes, NoRoom}
+use Rattle.csexp_write.specs.declared.Written.the-variants.{Bytes}
 use Rattle.csexp_write.specs.Sent.{answer, left}
 use Rattle.shapes.specs.Events.{Message, eventOf, eventText}
 

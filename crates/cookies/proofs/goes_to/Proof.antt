@@ -1,5 +1,4 @@
 -- By what the calls ensure. Written by tools/tables.py.
-use Prim.Native.Nat.{_-_}
 use Rattle.cookies.proofs.goes_to.Statement.{statement}
 use Rattle.cookies.proofs.goes_to.Tie as tie
 

@@ -1,5 +1,4 @@
 -- Each arm is one call. Written by tools/tables.py.
-use Prim.Native.Nat.{_-_}
 use borrow.Author.Needs.{needs}
 use Rattle.documents.proofs.changed.Statement.{statement}
 use Rattle.documents.proofs.changed.Tie as tie

@@ -1,5 +1,4 @@
 -- In the place of the row with its key, in a new place, or refused. Written by tools/tables.py.
-use Prim.Native.Nat.{_-_}
 use native.Mathlib.Omega.{arith}
 use borrow.Author.Needs.{needs}
 use Rattle.sorted.proofs.Open.{at-below, put-over, put-new, put-full}

@@ -1,5 +1,4 @@
 -- By what the calls ensure. Written by tools/tables.py.
-use Prim.Native.Nat.{_-_}
 use mathlib.Core.Path.{sym, _∙_}
 use Rattle.documents.proofs.set_state.Statement.{statement}
 use Rattle.documents.proofs.set_state.Tie as tie

@@ -1,5 +1,5 @@
 -- A bare number cancels nothing.
-use mathlib.Core.Path.{_≡_, refl, sym}
+use mathlib.Core.Path.{refl, sym}
 use mathlib.Core.List.{[], _∷_}
 use borrow.Author.Needs.{needs}
 use Rattle.tables.specs.Tables.{pendingRequests, pendingDNS}

@@ -1,5 +1,4 @@
 -- The five numbers one by one.
-use mathlib.Core.Path.{_∙_}
 use Rattle.fresh.specs.Wanted.{agrees}
 use Rattle.fresh.proofs.Exact.{five}
 use Rattle.fresh.proofs.exactly.Statement.{statement}

@@ -1,5 +1,4 @@
 -- By what the calls ensure. Written by tools/tables.py.
-use Prim.Native.Nat.{_-_}
 use Rattle.inputs.proofs.mentioned.Statement.{statement}
 use Rattle.inputs.proofs.mentioned.Tie as tie
 

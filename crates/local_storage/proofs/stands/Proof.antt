@@ -1,5 +1,4 @@
 -- Part by part. Written by tools/tables.py.
-use Prim.Native.Nat.{_-_}
 use borrow.Author.Needs.{needs}
 use Rattle.local_storage.proofs.stands.Statement.{statement}
 use Rattle.local_storage.proofs.stands.Tie as tie

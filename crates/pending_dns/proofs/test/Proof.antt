@@ -1,5 +1,4 @@
 -- Each arm is one call. Written by tools/tables.py.
-use Prim.Native.Nat.{_-_}
 use borrow.Author.Needs.{needs}
 use Rattle.pending_dns.proofs.test.Statement.{statement}
 use Rattle.pending_dns.proofs.test.Tie as tie

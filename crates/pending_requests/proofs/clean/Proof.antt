@@ -1,5 +1,4 @@
 -- By what the calls ensure. Written by tools/tables.py.
-use Prim.Native.Nat.{_-_}
 use mathlib.Core.Path.{_∙_}
 use Rattle.labels.proofs.Laws.{clean-first}
 use Rattle.tables.specs.Tables.{pendingRequests}

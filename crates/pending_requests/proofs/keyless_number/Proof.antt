@@ -1,5 +1,4 @@
 -- By what the calls ensure. Written by tools/tables.py.
-use Prim.Native.Nat.{_-_}
 use Rattle.pending_requests.proofs.keyless_number.Statement.{statement}
 use Rattle.pending_requests.proofs.keyless_number.Tie as tie
 

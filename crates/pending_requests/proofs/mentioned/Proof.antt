@@ -1,5 +1,4 @@
 -- By what the calls ensure. Written by tools/tables.py.
-use Prim.Native.Nat.{_-_}
 use mathlib.Core.Path.{sym}
 use Rattle.labels.proofs.Laws.{among-last}
 use Rattle.tables.specs.Labels.{leads, sealLabel, request}

@@ -1,5 +1,4 @@
 -- 8, or what the event's program performs.
-use borrow.Author.Needs.{needs}
 use Rattle.perform.proofs.Ways.{refuses-all, steps}
 use Rattle.perform.proofs.perform.Statement.{statement}
 use Rattle.perform.proofs.perform.Tie as tie

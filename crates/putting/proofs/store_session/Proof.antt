@@ -3,8 +3,8 @@ use mathlib.Core.Path.{refl, _∙_, ap}
 use mathlib.Core.Bool.{_||_}
 use mathlib.Core.List.{[], _∷_}
 use borrow.Author.Tests.{eq-eqb, ne-eqb}
-use Rattle.sorted.specs.Table.{put, drop}
-use Rattle.tables.specs.Tables.{sessionStorage, isSecure, changed}
+use Rattle.sorted.specs.Table.{put}
+use Rattle.tables.specs.Tables.{sessionStorage}
 use Rattle.tables.proofs.Update.{same-tables}
 use Rattle.draft.proofs.Carry.{put-carries, drop-carries, carries-wide}
 use Rattle.putting.proofs.store_session.Statement.{statement}

@@ -1,10 +1,10 @@
 -- `seeking::find`: what is left to seek from the place at hand is what was to be sought.
-use mathlib.Core.Path.{_≡_, refl, sym, _∙_}
+use mathlib.Core.Path.{_≡_, refl}
 use Prim.Native.Nat.{_-_, _+_}
 use native.Mathlib.Omega.{arith}
 use lib.ListN.{length, drop}
 use borrow.Author.Needs.{needs}
-use Rattle.seeking.specs.Sought.{until, Sought}
+use Rattle.seeking.specs.Sought.{until}
 use Rattle.seeking.proofs.Places.{out, hit, again}
 use Rattle.seeking.proofs.find.Statement.{statement}
 use Rattle.seeking.proofs.find.Tie as tie

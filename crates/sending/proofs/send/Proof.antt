@@ -1,8 +1,7 @@
 -- The question that is put in is that of the tables which the draft stands for.
-use mathlib.Core.Path.{_≡_, refl, sym, _∙_, ap}
+use mathlib.Core.Path.{sym, _∙_, ap}
 use Rattle.sorted.proofs.Member.{looked-found}
 use Rattle.sorted.specs.Table.{isSome}
-use Rattle.wim.specs.Program.{answer, strict}
 use Rattle.wim.specs.View.{rowsOf}
 use Rattle.sending.proofs.Ways.{sends, question-is}
 use Rattle.sending.proofs.send.Statement.{statement}

@@ -1,5 +1,4 @@
 -- Two calls. Written by tools/tables.py.
-use Prim.Native.Nat.{_-_}
 use Rattle.session_storage.proofs.key_is_not.Statement.{statement}
 use Rattle.session_storage.proofs.key_is_not.Tie as tie
 

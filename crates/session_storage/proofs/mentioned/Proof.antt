@@ -1,5 +1,4 @@
 -- By what the calls ensure. Written by tools/tables.py.
-use Prim.Native.Nat.{_-_}
 use Rattle.labels.proofs.Laws.{or-false, no-host}
 use Rattle.session_storage.proofs.mentioned.Statement.{statement}
 use Rattle.session_storage.proofs.mentioned.Tie as tie

@@ -1,5 +1,4 @@
 -- Part by part. Written by tools/tables.py.
-use Prim.Native.Nat.{_-_}
 use borrow.Author.Needs.{needs}
 use Rattle.session_storage.proofs.stands.Statement.{statement}
 use Rattle.session_storage.proofs.stands.Tie as tie

@@ -1,10 +1,9 @@
 -- The points marked P in 01 (1 to 11), as one table; the run that 01 prints; and refusal 7, which no run of the player meets.
-use mathlib.Core.Bool.{Bool, true, false, cond, not, _&&_}
+use mathlib.Core.Bool.{Bool, true, false, _&&_}
 use mathlib.Core.List.{List, [], _∷_}
 use Prim.Native.Nat.{ℕ, zero, suc}
 use Prim.Native.String.{String}
 use lib.Dec.{eqb}
-use Rattle.types.specs.declared.labels.WindowNumber.{WindowNumber}
 use Rattle.types.specs.declared.refusals.Verdict.{Verdict}
 use Rattle.types.specs.declared.refusals.Verdict.the-variants.{Accepted, Refused}
 use Rattle.tables.specs.Tables.{windows, documents}
@@ -15,7 +14,7 @@ use Rattle.shapes.specs.Texts.{itemIn}
 use Rattle.wim.specs.Navigable.{navigableMask, navigableSize}
 use Rattle.wim.specs.Step.{refusalNumber, Browser, emptyBrowser}
 use Rattle.wim.specs.Shown.{Shown, hidden, shown, whatIsShown}
-use Rattle.wim.specs.Wire.{Reply, rehearse}
+use Rattle.wim.specs.Wire.{rehearse}
 use Rattle.wim.specs.Run.{performed, after}
 use Rattle.wim.specs.Points.Compared.{Run, equal, prints}
 

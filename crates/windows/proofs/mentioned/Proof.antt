@@ -1,5 +1,4 @@
 -- By what the calls ensure. Written by tools/tables.py.
-use Prim.Native.Nat.{_-_}
 use Rattle.labels.proofs.Laws.{among-append}
 use Rattle.windows.proofs.mentioned.Statement.{statement}
 use Rattle.windows.proofs.mentioned.Tie as tie

@@ -1,5 +1,4 @@
 -- A count beyond the capacity reads as the capacity. Written by tools/tables.py.
-use Prim.Native.Nat.{_-_}
 use Rattle.sorted.proofs.Count.{mapped, row-count}
 use Rattle.tables.specs.Tables.{windows, cap}
 use Rattle.windows.proofs.size.Statement.{statement}

@@ -1,5 +1,4 @@
 -- By what the calls ensure. Written by tools/tables.py.
-use Prim.Native.Nat.{_-_}
 use Rattle.windows.proofs.spared.Statement.{statement}
 use Rattle.windows.proofs.spared.Tie as tie
 

@@ -1,5 +1,5 @@
 -- By cases; the label, if there is one, is the only one.
-use mathlib.Core.Path.{_≡_, _∙_, sym}
+use mathlib.Core.Path.{_∙_, sym}
 use borrow.Author.Needs.{needs}
 use Rattle.labels.proofs.Laws.{or-false}
 use Rattle.labels.proofs.mentions.in_opener.Statement.{statement}

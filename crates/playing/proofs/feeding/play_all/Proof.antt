@@ -7,10 +7,10 @@ use Rattle.playing.proofs.feeding.play_all.Statement.{statement}
 use Rattle.playing.proofs.feeding.play_all.Tie as tie
 
 abbrev Inv-loop : tie.InvT-loop
-Inv-loop loud window₀ lines₀ run₀ turns₀ window lines run turns = (65536 ≡ length window) × (65536 ≡ length lines) × (run .held ≤ length window)
+Inv-loop input loud window₀ lines₀ run₀ turns₀ window lines run turns = (65536 ≡ length window) × (65536 ≡ length lines) × (run .held ≤ length window)
 
 abbrev μ-loop : tie.MeasureT-loop
-μ-loop loud window₀ lines₀ run₀ turns₀ window lines run turns = turns
+μ-loop input loud window₀ lines₀ run₀ turns₀ window lines run turns = turns
 
 loop-holds : tie.Need-loop-holds Inv-loop μ-loop
 loop-holds c = (c .before .before .large-buffer .ensures, c .before .large-buffer2 .ensures, omega arith)

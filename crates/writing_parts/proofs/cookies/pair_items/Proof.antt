@@ -1,6 +1,6 @@
 -- `writing_parts::cookies::pair_items` meets its contract. The loop's invariant: the first i pairs were written.
 use mathlib.Core.Path.{_≡_, _∙_}
-use Prim.Native.Nat.{ℕ, _-_, _≤_}
+use Prim.Native.Nat.{_-_, _≤_}
 use native.Mathlib.Omega.{arith}
 use lib.ListN.{length, take}
 use borrow.Author.Needs.{needs}

@@ -1,0 +1,30 @@
+// The runs of the files that are named, one after the other. The first word is the program's own name.
+use libc::STDOUT_FILENO;
+use playing::play_all;
+
+fn play_file(name: &[u8]) {
+    io::write_all(STDOUT_FILENO, name);
+    let input = os::open_read(name);
+    if input < 0 {
+        io::write_all(STDOUT_FILENO, b" is missing\n");
+        return;
+    }
+    io::write_all(STDOUT_FILENO, b"\n");
+    play_all(input, true);
+    libc::close(input);
+}
+
+// No path has more than 4,096 bytes, and a longer word is handed out as none at all.
+fn play_word(i: usize) {
+    let mut name = [0u8; 4096];
+    let n = os::arg(i, &mut name);
+    play_file(&name[..n]);
+}
+
+pub fn play_each(words: usize) {
+    let mut i = 1;
+    while i < words {
+        play_word(i);
+        i += 1;
+    }
+}
