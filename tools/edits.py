@@ -2,8 +2,8 @@
 """edits.py [CRATE | CRATE/EDIT]...: tries must-fail edits, and says of each why the prover refuses it.
 
 The gate tries the edits of crates/CRATE/must-fail/, each on a crate of its own and from nothing; here those of crates/CRATE/must-fail/more/ are tried too, and
-edits of different functions together: a function is proved against the contracts of those that it calls, so an edit in one body has no part in what is said of
-another. An edit is refused where its own function is. Edits of anything but one function's body are tried alone.
+edits of different functions together: a function is proved by itself, so an edit in one body has no part in what is said of another. An edit is refused where
+its own function is. Edits of anything but one function's body are tried alone.
 
 `rt check` must have proved the crates before. JOBS (default 2) checks go at once. The last line is 'N refused, M not'.
 """
@@ -15,7 +15,6 @@ import shutil
 import subprocess
 import sys
 import tempfile
-from collections import defaultdict
 from concurrent.futures import ThreadPoolExecutor
 
 TOP = os.path.dirname(os.path.dirname(os.path.abspath(__file__)))
@@ -45,7 +44,7 @@ class Edit:
     def __init__(self, path):
         self.path = path
         self.crate, self.name = re.fullmatch(r".*/crates/([^/]*)/must-fail/(?:more/)?(.*)\.edit", path).groups()
-        self.pairs, self.bad = [], None
+        self.pairs = []
         file = old = None
         for line in open(path).read().split("\n"):
             if line.startswith("file: "):
@@ -62,21 +61,20 @@ class Edit:
         for file, old, new in self.pairs:
             text = open(f"{TOP}/crates/{self.crate}/{file}").read()
             at = text.find(old)
-            heads = [m for m in re.finditer(r"^(?:pub )?fn (\w+)(?:.*\n)*?\{\n", text, re.M) if m.end() <= at]
+            heads = [m for m in re.finditer(r"^(?:pub )?fn (\w+)(?:.*\n)*?(?:.* )?\{\n", text, re.M) if m.end() <= at]
             inside = heads and "\n}\n" not in text[heads[-1].end() - 1:at]
             found.add((file, heads[-1].group(1)) if inside and file.startswith("src/") else None)
         return found.pop() if len(found) == 1 else None
 
     def apply(self, folder):
-        """Each replacement is of a text that its file has just once."""
+        """Each replacement is of a text that its file has just once; another edit may have made it two."""
+        self.bad = None if self.pairs else "it has no 'old:' and 'new:' pair"
         for file, old, new in self.pairs:
             text = open(f"{folder}/{file}").read()
             if text.count(old) != 1:
                 self.bad = f"its 'old:' text is {text.count(old)} times in {file}"
                 return
             open(f"{folder}/{file}", "w").write(text.replace(old, new))
-        if not self.pairs:
-            self.bad = "it has no 'old:' and 'new:' pair"
 
 
 def proof_of(crate, function):
@@ -88,16 +86,33 @@ def proof_of(crate, function):
     return f"{home}/{cycles[0] if cycles else name}/".removeprefix(f"{TOP}/crates/{crate}/")
 
 
-def together(edits):
-    """The edits of a crate in as few lots as will do: in a lot no two have one function, nor one cycle of functions."""
-    lots = defaultdict(list)
-    taken = defaultdict(int)
+def called_in(crate):
+    """Of each function of a crate, by name, the names of those of the crate that it calls, and those that these call."""
+    texts = [open(f).read() for f in glob.glob(f"{TOP}/crates/{crate}/src/**/*.rt", recursive=True)]
+    bodies = dict(m for text in texts for m in re.findall(r"^(?:pub )?fn (\w+)((?:.*\n)*?)\}\n", text, re.M))
+    calls = {name: {other for other in bodies if re.search(rf"\b{other}\(", body)} for name, body in bodies.items()}
+    for _ in bodies:
+        calls = {name: own.union(*(calls[other] for other in own)) for name, own in calls.items()}
+    return calls
+
+
+def lots_of(edits, apart):
+    """The edits in few lots, any two in a lot being apart."""
+    lots = []
     for edit in edits:
-        if edit.where:
-            home = proof_of(edit.crate, edit.where)
-            lots[taken[home]].append(edit)
-            taken[home] += 1
-    return list(lots.values()) + [[edit] for edit in edits if not edit.where]
+        lot = next((lot for lot in lots if all(apart(edit, other) for other in lot)), None)
+        lots.append([edit]) if lot is None else lot.append(edit)
+    return lots
+
+
+def two_proofs(edit, other):
+    return edit.where and other.where and proof_of(edit.crate, edit.where) != proof_of(other.crate, other.where)
+
+
+def no_call(calls):
+    """Whether two edits are of two functions of which neither calls the other: a proof that is one term waits for those of the functions that are called."""
+    reaches = lambda edit, other: other.where[1] in calls.get(edit.where[1], ())
+    return lambda edit, other: two_proofs(edit, other) and not reaches(edit, other) and not reaches(other, edit)
 
 
 ERROR = re.compile(r"^\S+: error(?!.*was not admitted).*(?:\n(?!\S+: error|fn |note: ).*){0,3}", re.M)
@@ -137,12 +152,14 @@ def attempt(lot):
     told = []
     for edit in lot:
         why = own_refusal(edit, said) or (any_refusal(said) if status and len(lot) == 1 else None)
-        if edit.bad or (len(lot) == 1 and not judged):
-            told.append((False, f"{crate}/{edit.name}: BAD EDIT: {edit.bad or why}"))
-        elif why and judged:
+        if why and judged and not edit.bad:
             told.append((True, f"{crate}/{edit.name}: refused: " + re.sub(r"\s+", " ", why.replace(scratch + "/", ""))[:600]))
+        elif len(lot) > 1:
+            told.append((False, None))
+        elif edit.bad or not judged:
+            told.append((False, f"{crate}/{edit.name}: BAD EDIT: {edit.bad or why}"))
         else:
-            told.append((False, f"{crate}/{edit.name}: NOT REFUSED" if len(lot) == 1 else None))
+            told.append((False, f"{crate}/{edit.name}: NOT REFUSED"))
     return told
 
 
@@ -153,13 +170,17 @@ def prepared(crate):
 
 
 def tried(crate, edits, jobs):
-    """Whether each edit is refused, and a line on it. An edit of which its lot does not tell is tried again, alone."""
-    lots = together(edits)
-    if len(lots) > 2 and not prepared(crate):
+    """Whether each edit is refused, and a line on it. An edit of which its lot does not tell is tried again in a smaller lot, and at last alone."""
+    told = []
+    unbound = no_call(called_in(crate))
+    if len(lots_of(edits, unbound)) > 3 and not prepared(crate):
         sys.exit(f"{crate} is not proved as it stands")
-    told = [(edit, *answer) for lot, answers in zip(lots, jobs.map(attempt, lots)) for edit, answer in zip(lot, answers)]
-    again = [edit for edit, good, line in told if line is None]
-    return [(good, line) for edit, good, line in told if line is not None] + [answers[0] for answers in jobs.map(attempt, [[edit] for edit in again])]
+    for apart in (two_proofs, unbound, lambda edit, other: False):
+        lots = lots_of(edits, apart)
+        answers = [(edit, *answer) for lot, answers in zip(lots, jobs.map(attempt, lots)) for edit, answer in zip(lot, answers)]
+        told += [(good, line) for edit, good, line in answers if line]
+        edits = [edit for edit, good, line in answers if not line]
+    return told
 
 
 def main(wanted):

@@ -3,20 +3,21 @@ import re
 
 from tables import Table, Test, Function, Size, Clean, Without, Collect, MapAll, Revise, PutAll, part
 
-USES = [f'types::{module}::{name}' for module, names in {
-    'addresses': ['Address', 'Host', 'Origin', 'Protocol'],
+USES = [f'types::{name}' for name in [
+    'Address', 'Host', 'Origin', 'Protocol',
+    'DnsNumber', 'DocumentNumber', 'DocumentNumbers', 'KeyNumber', 'Label', 'RequestNumber', 'WindowNumber', 'WindowNumbers',
+    'Matching', 'Policy', 'Reference', 'Referrer', 'Seal',
+]] + [f'types::{module}::{name}' for module, names in {
     'answers': ['Body'],
     'commands': ['Script', 'ScriptState'],
     'cookies': ['Cookie', 'CookieName', 'CookieValue', 'Jar', 'SetCookies'],
     'items': ['Stored'],
-    'labels': ['DnsNumber', 'DocumentNumber', 'DocumentNumbers', 'KeyNumber', 'Label', 'RequestNumber', 'WindowNumber', 'WindowNumbers'],
-    'requests': ['Matching', 'Policy', 'Reference', 'Referrer', 'Seal'],
     'rows': ['News', 'Opener', 'Parent'],
 }.items() for name in names]
 
 CITES = {
-    'Rattle.types.specs.declared.labels.WindowNumbers': ['WindowNumbers'],
-    'Rattle.types.specs.declared.labels.DocumentNumbers': ['DocumentNumbers'],
+    'Rattle.types.specs.declared.WindowNumbers': ['WindowNumbers'],
+    'Rattle.types.specs.declared.DocumentNumbers': ['DocumentNumbers'],
     'Rattle.tables.specs.Nouns': ['DocumentNumber', 'Host', 'Protocol', 'Cookie', 'Window', 'Document', 'HostCookie', 'LocalValue', 'SessionValue',
                                   'Input', 'Question', 'Waiting', 'StrictHost'],
     'Rattle.tables.specs.Tables': ['windows', 'documents', 'cookies', 'localStorage', 'sessionStorage', 'inputs', 'pendingDNS', 'pendingRequests',

@@ -1,9 +1,9 @@
 // 000 A9:55 to 63: an HTTP answer comes in, encrypted or plain.
+use types::Fresh;
+use types::KeyNumber;
 use types::answers::Answer;
 use types::browser::Browser;
 use types::cookies::SetCookies;
-use types::labels::Fresh;
-use types::labels::KeyNumber;
 use types::refusals::Missing;
 use types::refusals::Performed;
 use types::refusals::Refusal;

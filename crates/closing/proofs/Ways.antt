@@ -3,8 +3,8 @@ use mathlib.Core.Path.{_≡_, refl, sym, _∙_}
 use mathlib.Core.Bool.{false}
 use mathlib.Core.List.{List, [], _∷_}
 use mathlib.Core.Option.{none}
-use Rattle.types.specs.declared.labels.Fresh.{Fresh}
-use Rattle.types.specs.declared.labels.Wants.{Wants}
+use Rattle.types.specs.declared.Fresh.{Fresh}
+use Rattle.types.specs.declared.Wants.{Wants}
 use Rattle.sorted.specs.Table.{keep}
 use Rattle.tables.specs.Tables.{Tables}
 use Rattle.wim.specs.Program.{made, run}

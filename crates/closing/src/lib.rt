@@ -1,10 +1,10 @@
 // 000 Algorithm 9, lines 46 to 54: CLOSECORRUPT. Cookies that last, local storage and STS hosts stay; all else goes.
+use types::Fresh;
+use types::Sent;
+use types::Wants;
 use types::browser::Browser;
-use types::labels::Fresh;
-use types::labels::Wants;
 use types::refusals::Performed;
 use types::refusals::Refusal;
-use types::requests::Sent;
 ghost use mathlib.Core.Path.{_≡_};
 ghost use mathlib.Core.Bool.{true};
 ghost use Rattle.wim.specs.Main.{closeCorrupt};

@@ -1,6 +1,6 @@
 // The cookies, by host and name. Written by tools/tables.py.
-use types::addresses::Host;
-use types::addresses::Protocol;
+use types::Host;
+use types::Protocol;
 use types::browser::COOKIES;
 use types::browser::Cookies;
 use types::cookies::Cookie;

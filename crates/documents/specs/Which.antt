@@ -4,7 +4,7 @@ use Prim.Native.Nat.{suc}
 use lib.Dec.{eqb, ltb, leb}
 use lib.ListN.{take}
 use Rattle.sorted.specs.Order.{same}
-use Rattle.types.specs.declared.labels.DocumentNumbers.{DocumentNumbers}
+use Rattle.types.specs.declared.DocumentNumbers.{DocumentNumbers}
 use Rattle.tables.specs.Nouns.{DocumentNumber, Document}
 use Rattle.tables.specs.Tables.{documents, keyOf, cmp}
 use Rattle.tables.specs.Labels.{among, mentions}

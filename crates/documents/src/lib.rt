@@ -1,14 +1,14 @@
 // The documents, by window and place in its history. Written by tools/tables.py.
+use types::DocumentNumber;
+use types::DocumentNumbers;
+use types::Label;
+use types::Policy;
+use types::Referrer;
+use types::WindowNumber;
 use types::browser::DOCUMENTS;
 use types::browser::Documents;
 use types::commands::Script;
 use types::commands::ScriptState;
-use types::labels::DocumentNumber;
-use types::labels::DocumentNumbers;
-use types::labels::Label;
-use types::labels::WindowNumber;
-use types::requests::Policy;
-use types::requests::Referrer;
 use types::rows::Document;
 ghost use mathlib.Core.Path.{_≡_};
 ghost use mathlib.Core.Bool.{not};

@@ -13,8 +13,8 @@ use Rattle.types.specs.declared.refusals.Performed.{Performed}
 use Rattle.types.specs.declared.refusals.Refusal.{Refusal}
 use Rattle.types.specs.declared.refusals.Refusal.the-variants.{Full}
 use Rattle.types.specs.declared.refusals.Verdict.the-variants.{Accepted, Refused}
-use Rattle.types.specs.declared.requests.Request.{Request}
-use Rattle.types.specs.declared.requests.Sent.{Sent}
+use Rattle.types.specs.declared.Request.{Request}
+use Rattle.types.specs.declared.Sent.{Sent}
 use Rattle.sorted.proofs.Never.{never}
 use Rattle.sorted.proofs.Count.{taken-fits}
 use Rattle.tables.specs.Tables.{windows, documents, cookies, inputs, sts, Tables}

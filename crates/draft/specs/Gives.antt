@@ -7,8 +7,8 @@ use Rattle.types.specs.declared.browser.Draft.{Draft}
 use Rattle.types.specs.declared.refusals.Performed.{Performed}
 use Rattle.types.specs.declared.refusals.Refusal.{Refusal}
 use Rattle.types.specs.declared.refusals.Verdict.the-variants.{Refused}
-use Rattle.types.specs.declared.requests.Request.{Request}
-use Rattle.types.specs.declared.requests.Sent.{Sent}
+use Rattle.types.specs.declared.Request.{Request}
+use Rattle.types.specs.declared.Sent.{Sent}
 use Rattle.tables.specs.Tables.{Table, Tables}
 use Rattle.shapes.specs.Events.{messageOf}
 use Rattle.wim.specs.Program.{made}

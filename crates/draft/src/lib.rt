@@ -1,12 +1,12 @@
 // A browser in the making. A step changes a draft table by table and looks once, at the end, whether there was room. Here: from a browser to a
 // draft, and from a draft, or a refusal, to what the step gives.
+use types::Request;
+use types::Sent;
 use types::browser::Browser;
 use types::browser::Draft;
 use types::refusals::Performed;
 use types::refusals::Refusal;
 use types::refusals::Verdict;
-use types::requests::Request;
-use types::requests::Sent;
 ghost use mathlib.Core.List.{[]};
 ghost use Rattle.wim.specs.Step.{declined};
 ghost use Rattle.wim.specs.View.{rowsOf};

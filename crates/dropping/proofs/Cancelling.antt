@@ -1,8 +1,8 @@
 -- A window's number without its label equals no reference, so that nothing is cancelled by it.
 use mathlib.Core.Path.{_≡_, refl}
 use mathlib.Core.Bool.{true}
-use Rattle.types.specs.declared.labels.WindowNumber.{WindowNumber}
-use Rattle.types.specs.declared.requests.Cancelled.the-variants.{Bare}
+use Rattle.types.specs.declared.WindowNumber.{WindowNumber}
+use Rattle.types.specs.declared.Cancelled.the-variants.{Bare}
 use Rattle.sorted.proofs.Member.{keep-all}
 use Rattle.tables.specs.Tables.{pendingDNS, pendingRequests, Tables}
 use Rattle.tables.proofs.Update.{same-tables}

@@ -1,10 +1,10 @@
 -- What the shared parts of a step do to the tables: the same edits as in the programs of `wim`, as functions.
 use mathlib.Core.Bool.{not}
 use mathlib.Core.List.{List, [], _∷_}
-use Rattle.types.specs.declared.labels.DocumentNumber.{DocumentNumber}
-use Rattle.types.specs.declared.labels.WindowNumber.{WindowNumber}
-use Rattle.types.specs.declared.requests.Cancelled.{Cancelled}
-use Rattle.types.specs.declared.requests.Reference.{Reference}
+use Rattle.types.specs.declared.DocumentNumber.{DocumentNumber}
+use Rattle.types.specs.declared.WindowNumber.{WindowNumber}
+use Rattle.types.specs.declared.Cancelled.{Cancelled}
+use Rattle.types.specs.declared.Reference.{Reference}
 use Rattle.types.specs.declared.rows.Document.{Document}
 use Rattle.types.specs.declared.rows.Input.{Input}
 use Rattle.types.specs.declared.rows.Question.{Question}

@@ -1,11 +1,11 @@
 // Rows taken out of a draft, and rows changed in place: there is always room for that.
+use types::Cancelled;
+use types::DnsNumber;
+use types::DocumentNumbers;
+use types::Reference;
+use types::RequestNumber;
+use types::WindowNumbers;
 use types::browser::Draft;
-use types::labels::DnsNumber;
-use types::labels::DocumentNumbers;
-use types::labels::RequestNumber;
-use types::labels::WindowNumbers;
-use types::requests::Cancelled;
-use types::requests::Reference;
 ghost use mathlib.Core.List.{[], _∷_, map};
 ghost use lib.ListN.{take};
 ghost use Rattle.sorted.specs.Table.{drop};

@@ -1,21 +1,21 @@
 // Requests and addresses to send.
-use types::addresses::Address;
-use types::addresses::Host;
-use types::addresses::Parameters;
-use types::addresses::Path;
+use types::Address;
+use types::Data;
+use types::DnsNumber;
+use types::Host;
+use types::KeyNumber;
+use types::Method;
+use types::OriginHeader;
+use types::Parameters;
+use types::Path;
+use types::Referrer;
+use types::Request;
+use types::RequestNumber;
+use types::Sent;
 use types::cookies::CookieName;
 use types::cookies::CookieValue;
 use types::cookies::Jar;
 use types::cookies::Pair;
-use types::labels::DnsNumber;
-use types::labels::KeyNumber;
-use types::labels::RequestNumber;
-use types::requests::Data;
-use types::requests::Method;
-use types::requests::OriginHeader;
-use types::requests::Referrer;
-use types::requests::Request;
-use types::requests::Sent;
 
 pub fn question() -> Sent {
     Sent::Resolve(Host(5), DnsNumber(32))

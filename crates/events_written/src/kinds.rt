@@ -1,22 +1,22 @@
 // Each kind of message, and the largest.
 use crate::given;
 use crate::say;
-use types::addresses::Address;
-use types::addresses::Fragment;
-use types::addresses::Host;
-use types::addresses::Origin;
-use types::addresses::Parameters;
-use types::addresses::Path;
-use types::addresses::Protocol;
-use types::addresses::Url;
-use types::labels::KeyNumber;
-use types::labels::RequestNumber;
-use types::requests::Data;
-use types::requests::Method;
-use types::requests::OriginHeader;
-use types::requests::Referrer;
-use types::requests::Request;
-use types::requests::Sent;
+use types::Address;
+use types::Data;
+use types::Fragment;
+use types::Host;
+use types::KeyNumber;
+use types::Method;
+use types::Origin;
+use types::OriginHeader;
+use types::Parameters;
+use types::Path;
+use types::Protocol;
+use types::Referrer;
+use types::Request;
+use types::RequestNumber;
+use types::Sent;
+use types::Url;
 
 // The two lines of 01's example run.
 pub fn example() {

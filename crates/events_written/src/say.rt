@@ -1,8 +1,8 @@
 // A line of output: the name of a case, and what was written.
 use csexp_write::Written;
 use libc::STDOUT_FILENO;
-use types::requests::Request;
-use types::requests::Sent;
+use types::Request;
+use types::Sent;
 use writing::length_of;
 use writing::write_event;
 

@@ -2,7 +2,7 @@
 use mathlib.Core.List.{List}
 use Prim.Native.Nat.{suc}
 use lib.ListN.{length}
-use Rattle.types.specs.declared.labels.DocumentNumber.{DocumentNumber}
+use Rattle.types.specs.declared.DocumentNumber.{DocumentNumber}
 use Rattle.types.specs.declared.rows.Input.{Input}
 use Rattle.types.specs.declared.rows.News.{News}
 use Rattle.sorted.specs.Table.{keep}

@@ -1,6 +1,6 @@
 // What a script hears, an XHR's answer or a message, is filed as the next input of its document.
+use types::DocumentNumber;
 use types::browser::Inputs;
-use types::labels::DocumentNumber;
 use types::rows::Input;
 use types::rows::News;
 ghost use mathlib.Core.Path.{_≡_};

@@ -6,8 +6,8 @@ use Prim.Native.Nat.{ℕ, _<_}
 use native.Mathlib.Omega.{arith}
 use borrow.Author.Tests.{eq-eqb, ne-eqb}
 use lib.Dec.{eqb, lit≤}
-use Rattle.types.specs.declared.labels.Fresh.{Fresh}
-use Rattle.types.specs.declared.labels.Wants.{Wants}
+use Rattle.types.specs.declared.Fresh.{Fresh}
+use Rattle.types.specs.declared.Wants.{Wants}
 use Rattle.types.specs.declared.refusals.Refusal.the-variants.{NotFresh}
 use Rattle.sorted.proofs.Tests.{and-left, and-right}
 use Rattle.tables.specs.Tables.{Tables}

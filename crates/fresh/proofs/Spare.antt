@@ -3,7 +3,7 @@ use mathlib.Core.Path.{_≡_, refl, ap}
 use mathlib.Core.Bool.{Bool, true, false, cond, _&&_}
 use mathlib.Core.List.{List, [], _∷_}
 use lib.Dec.{eqb}
-use Rattle.types.specs.declared.labels.Label.{Label as Mark}
+use Rattle.types.specs.declared.Label.{Label as Mark}
 use Rattle.types.specs.declared.rows.HostCookie.{HostCookie}
 use Rattle.types.specs.declared.rows.LocalValue.{LocalValue}
 use Rattle.types.specs.declared.rows.StrictHost.{StrictHost}

@@ -3,8 +3,8 @@ use mathlib.Core.Bool.{Bool, true, false, cond, not, _&&_}
 use mathlib.Core.List.{List, [], _∷_}
 use Prim.Native.Nat.{ℕ}
 use lib.Dec.{eqb}
-use Rattle.types.specs.declared.labels.Fresh.{Fresh}
-use Rattle.types.specs.declared.labels.Wants.{Wants}
+use Rattle.types.specs.declared.Fresh.{Fresh}
+use Rattle.types.specs.declared.Wants.{Wants}
 use Rattle.tables.specs.Tables.{Tables}
 use Rattle.tables.specs.Labels.{Kind, Label, isFresh}
 use Rattle.wim.specs.Step.{numbers, freshLabels, allFresh}

@@ -1,8 +1,8 @@
 // Refusal 5: the fresh numbers are just those that a step needs, and none of them stands anywhere in the tables.
+use types::Fresh;
+use types::Label;
+use types::Wants;
 use types::browser::Browser;
-use types::labels::Fresh;
-use types::labels::Label;
-use types::labels::Wants;
 ghost use mathlib.Core.Path.{_≡_};
 ghost use Rattle.tables.specs.Labels.{isFresh};
 ghost use Rattle.tables.specs.View.{labelOf};

@@ -1,10 +1,10 @@
 // 000 A8:2 to 6, with A9:59 and 62: the request no longer waits, and the headers of its answer are acted upon.
-use types::addresses::Host;
+use types::Fresh;
+use types::Host;
 use types::answers::Answer;
 use types::browser::Browser;
 use types::browser::Draft;
 use types::cookies::SetCookies;
-use types::labels::Fresh;
 use types::refusals::Performed;
 use types::rows::StrictHost;
 use types::rows::Waiting;

@@ -3,8 +3,8 @@ use mathlib.Core.Bool.{true, false}
 use mathlib.Core.List.{List, map}
 use mathlib.Core.Option.{Option, none, some}
 use Prim.Native.Nat.{ℕ}
-use Rattle.types.specs.declared.labels.WindowNumber.{WindowNumber}
-use Rattle.types.specs.declared.requests.Cancelled.the-variants.{Bare}
+use Rattle.types.specs.declared.WindowNumber.{WindowNumber}
+use Rattle.types.specs.declared.Cancelled.the-variants.{Bare}
 use Rattle.types.specs.declared.rows.Document.{Document}
 use Rattle.sorted.specs.Table.{looked}
 use Rattle.tables.specs.Tables.{documents, Tables, update}

@@ -4,8 +4,8 @@ use mathlib.Core.Bool.{true}
 use mathlib.Core.List.{List, [], _∷_}
 use Rattle.types.specs.declared.browser.Browser.{Browser as State}
 use Rattle.types.specs.declared.browser.Draft.{Draft}
-use Rattle.types.specs.declared.labels.Fresh.{Fresh}
-use Rattle.types.specs.declared.labels.WindowNumber.{WindowNumber}
+use Rattle.types.specs.declared.Fresh.{Fresh}
+use Rattle.types.specs.declared.WindowNumber.{WindowNumber}
 use Rattle.types.specs.declared.refusals.Performed.{Performed}
 use Rattle.tables.specs.Tables.{Table, pendingDNS, pendingRequests, Tables}
 use Rattle.tables.specs.Labels.{Label}

@@ -1,12 +1,12 @@
 // 000 Algorithms 5 and 6, NAVBACK and NAVFORWARD: one algorithm with two directions.
+use types::Cancelled;
+use types::Fresh;
+use types::WindowNumber;
 use types::browser::Browser;
 use types::browser::Documents;
 use types::browser::Draft;
-use types::labels::Fresh;
-use types::labels::WindowNumber;
 use types::refusals::Performed;
 use types::refusals::Refusal;
-use types::requests::Cancelled;
 use types::rows::Document;
 ghost use mathlib.Core.Path.{_≡_};
 ghost use mathlib.Core.List.{[], _∷_};

@@ -2,7 +2,7 @@
 use mathlib.Core.Bool.{Bool, not}
 use lib.ListN.{take}
 use Rattle.sorted.specs.Order.{same}
-use Rattle.types.specs.declared.labels.DocumentNumbers.{DocumentNumbers}
+use Rattle.types.specs.declared.DocumentNumbers.{DocumentNumbers}
 use Rattle.tables.specs.Nouns.{Input}
 use Rattle.tables.specs.Tables.{inputs, keyOf, cmp}
 use Rattle.tables.specs.Labels.{among, mentions}

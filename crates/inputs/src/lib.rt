@@ -1,11 +1,11 @@
 // The inputs of scripts, by document and arrival. Written by tools/tables.py.
+use types::DocumentNumber;
+use types::DocumentNumbers;
+use types::Label;
+use types::Matching;
 use types::answers::Body;
 use types::browser::INPUTS;
 use types::browser::Inputs;
-use types::labels::DocumentNumber;
-use types::labels::DocumentNumbers;
-use types::labels::Label;
-use types::requests::Matching;
 use types::rows::Input;
 use types::rows::News;
 ghost use mathlib.Core.Path.{_≡_};

@@ -1,10 +1,10 @@
 // What a reading says, in words and numbers.
 use libc::STDOUT_FILENO;
 use reading::Reading;
+use types::Fresh;
 use types::answers::Answer;
 use types::commands::Command;
 use types::items::Event;
-use types::labels::Fresh;
 use types::refusals::Refusal;
 use types::refusals::Verdict;
 

@@ -4,8 +4,8 @@ use mathlib.Core.Bool.{Bool, true, false, cond, _||_, _&&_, not}
 use mathlib.Core.List.{List, [], _∷_, _++_}
 use mathlib.Core.Option.{Option, some}
 use Prim.Native.Nat.{ℕ}
-use Rattle.types.specs.declared.labels.Label.{Label as Mark}
-use Rattle.types.specs.declared.labels.Label.the-variants.{OfWindow, OfRequest, OfDns, OfKey, OfDocument}
+use Rattle.types.specs.declared.Label.{Label as Mark}
+use Rattle.types.specs.declared.Label.the-variants.{OfWindow, OfRequest, OfDns, OfKey, OfDocument}
 use Rattle.sorted.specs.Table.{find, looked, isSome}
 use Rattle.sorted.proofs.Never.{never}
 use Rattle.tables.specs.Nouns.{WindowNumber, DocumentNumber}

@@ -1,6 +1,6 @@
 // Protocols and origins.
-use types::addresses::Origin;
-use types::addresses::Protocol;
+use types::Origin;
+use types::Protocol;
 ghost use mathlib.Core.Path.{_≡_};
 ghost use Rattle.tables.specs.Tables.{isSecure};
 ghost use Rattle.tables.specs.Rows.{sameProtocol, sameOrigin};

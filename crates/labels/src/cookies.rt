@@ -1,5 +1,5 @@
 // Cookies.
-use types::addresses::Protocol;
+use types::Protocol;
 use types::cookies::Cookie;
 use types::cookies::CookieName;
 use types::cookies::Pair;

@@ -1,7 +1,7 @@
 // Whether a label stands in a part of a row.
-use types::labels::Label;
-use types::requests::Reference;
-use types::requests::Seal;
+use types::Label;
+use types::Reference;
+use types::Seal;
 use types::rows::News;
 use types::rows::Opener;
 use types::rows::Parent;

@@ -1,8 +1,8 @@
 // A number among some numbers.
-use types::labels::DocumentNumber;
-use types::labels::DocumentNumbers;
-use types::labels::WindowNumber;
-use types::labels::WindowNumbers;
+use types::DocumentNumber;
+use types::DocumentNumbers;
+use types::WindowNumber;
+use types::WindowNumbers;
 ghost use mathlib.Core.Path.{_≡_};
 ghost use lib.ListN.{take};
 ghost use Rattle.tables.specs.Rows.{oneOf, windowOneOf};

@@ -1,8 +1,8 @@
 // References, and the keys of requests that wait.
-use types::labels::KeyNumber;
-use types::requests::Matching;
-use types::requests::Reference;
-use types::requests::Seal;
+use types::KeyNumber;
+use types::Matching;
+use types::Reference;
+use types::Seal;
 ghost use mathlib.Core.Path.{_≡_};
 ghost use Rattle.tables.specs.Rows.{sameMatching, sameReference, hasKey, hasNoKey};
 

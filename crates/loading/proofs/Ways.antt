@@ -8,9 +8,9 @@ use Rattle.types.specs.declared.answers.Answer.{Answer}
 use Rattle.types.specs.declared.commands.Script.{Script}
 use Rattle.types.specs.declared.commands.ScriptState.{ScriptState}
 use Rattle.types.specs.declared.cookies.Cookie.{Cookie}
-use Rattle.types.specs.declared.labels.Fresh.{Fresh}
-use Rattle.types.specs.declared.labels.Wants.{Wants}
-use Rattle.types.specs.declared.labels.WindowNumber.{WindowNumber}
+use Rattle.types.specs.declared.Fresh.{Fresh}
+use Rattle.types.specs.declared.Wants.{Wants}
+use Rattle.types.specs.declared.WindowNumber.{WindowNumber}
 use Rattle.types.specs.declared.rows.Document.{Document}
 use Rattle.types.specs.declared.rows.Waiting.{Waiting}
 use Rattle.tables.specs.Tables.{windows, documents, Tables}

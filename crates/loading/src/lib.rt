@@ -1,4 +1,9 @@
 // 000 A8:35 to 45: a document is loaded behind the active one of a window; those behind that go, with everything under them.
+use types::DocumentNumber;
+use types::Fresh;
+use types::Sent;
+use types::Wants;
+use types::WindowNumber;
 use types::answers::Answer;
 use types::browser::Browser;
 use types::browser::Documents;
@@ -7,13 +12,8 @@ use types::browser::Windows;
 use types::commands::Script;
 use types::commands::ScriptState;
 use types::cookies::SetCookies;
-use types::labels::DocumentNumber;
-use types::labels::Fresh;
-use types::labels::Wants;
-use types::labels::WindowNumber;
 use types::refusals::Performed;
 use types::refusals::Refusal;
-use types::requests::Sent;
 use types::rows::Document;
 use types::rows::Waiting;
 use walks::told::Removal;

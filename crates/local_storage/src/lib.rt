@@ -1,7 +1,7 @@
 // What scripts keep in local storage, by origin. Written by tools/tables.py.
-use types::addresses::Host;
-use types::addresses::Origin;
-use types::addresses::Protocol;
+use types::Host;
+use types::Origin;
+use types::Protocol;
 use types::browser::LOCAL_STORAGE;
 use types::browser::LocalStorage;
 use types::items::Stored;

@@ -1,7 +1,7 @@
 // Which cookies a script or an answer may set: 000 Definitions 36 (CookieMerge) and 37 (AddCookie).
 // Lists are passed by value, whatever their counts say.
-use types::addresses::Host;
-use types::addresses::Protocol;
+use types::Host;
+use types::Protocol;
 use types::browser::Cookies;
 use types::cookies::Cookie;
 use types::cookies::CookieName;

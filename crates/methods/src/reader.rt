@@ -6,7 +6,7 @@ ghost use Rattle.shapes.specs.Items.{methodOf};
 use crate::table::spelling_at;
 use csexp::LOST;
 use csexp::word;
-use types::requests::Method;
+use types::Method;
 
 // The method of a row; past the table it is that of the last row.
 fn method_at(i: usize) -> Method

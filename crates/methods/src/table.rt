@@ -4,7 +4,7 @@ ghost use mathlib.Core.Path.{_≡_};
 ghost use lib.ListN.{getD};
 ghost use Rattle.shapes.specs.Words.{spellings, spelling, rowOf};
 ghost use Rattle.methods.specs.Spelt.{Spelt};
-use types::requests::Method;
+use types::Method;
 
 // The first `length` bytes; those behind them are 0.
 pub struct Spelling {

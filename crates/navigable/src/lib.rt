@@ -1,10 +1,10 @@
 // The windows that the active document of a window may navigate (000 Definition 38), asked of one window and as a set.
 // Tables are passed by value, in whatever order their rows stand and whatever their counts say.
-use types::addresses::Origin;
+use types::Origin;
+use types::WindowNumber;
 use types::browser::Documents;
 use types::browser::WINDOWS;
 use types::browser::Windows;
-use types::labels::WindowNumber;
 use types::rows::Document;
 use types::rows::Opener;
 use walks::STEPS;

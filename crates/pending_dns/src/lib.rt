@@ -1,10 +1,10 @@
 // The requests that wait for their host's address, by number. Written by tools/tables.py.
+use types::DnsNumber;
+use types::Label;
+use types::Reference;
+use types::WindowNumber;
 use types::browser::PENDING_DNS;
 use types::browser::PendingDns;
-use types::labels::DnsNumber;
-use types::labels::Label;
-use types::labels::WindowNumber;
-use types::requests::Reference;
 use types::rows::Question;
 ghost use mathlib.Core.Path.{_≡_};
 ghost use mathlib.Core.Bool.{not};

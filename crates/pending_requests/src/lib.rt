@@ -1,13 +1,13 @@
 // The requests that wait for their answer, by number. Written by tools/tables.py.
-use types::addresses::Address;
+use types::Address;
+use types::KeyNumber;
+use types::Label;
+use types::Reference;
+use types::RequestNumber;
+use types::Seal;
+use types::WindowNumber;
 use types::browser::PENDING_REQUESTS;
 use types::browser::PendingRequests;
-use types::labels::KeyNumber;
-use types::labels::Label;
-use types::labels::RequestNumber;
-use types::labels::WindowNumber;
-use types::requests::Reference;
-use types::requests::Seal;
 use types::rows::Waiting;
 ghost use mathlib.Core.Path.{_≡_};
 ghost use mathlib.Core.Bool.{not, _&&_};

@@ -6,7 +6,7 @@ use Rattle.types.specs.declared.browser.Browser.{Browser as State}
 use Rattle.types.specs.declared.items.Event.{Event}
 use Rattle.types.specs.declared.items.Item.{Item}
 use Rattle.types.specs.declared.cookies.Cookie.{Cookie}
-use Rattle.types.specs.declared.labels.Fresh.{Fresh}
+use Rattle.types.specs.declared.Fresh.{Fresh}
 use Rattle.types.specs.declared.refusals.Performed.{Performed}
 use Rattle.types.specs.declared.refusals.Refusal.the-variants.{Closed}
 use Rattle.wim.specs.Main.{cookiesIn, program}

@@ -1,9 +1,9 @@
 // A step: 8 where the browser is closed, else what the event's program says (000 Algorithm 9).
+use types::Fresh;
 use types::browser::Browser;
 use types::cookies::SetCookies;
 use types::items::Event;
 use types::items::Item;
-use types::labels::Fresh;
 use types::refusals::Performed;
 use types::refusals::Refusal;
 ghost use Rattle.wim.specs.Main.{cookiesIn, program};

@@ -2,9 +2,9 @@
 use mathlib.Core.Path.{refl}
 use mathlib.Core.Bool.{true, false}
 use mathlib.Core.List.{List, [], _∷_}
-use Rattle.types.specs.declared.labels.Fresh.{Fresh}
-use Rattle.types.specs.declared.labels.Wants.{Wants}
-use Rattle.types.specs.declared.requests.Sending.{Sending}
+use Rattle.types.specs.declared.Fresh.{Fresh}
+use Rattle.types.specs.declared.Wants.{Wants}
+use Rattle.types.specs.declared.Sending.{Sending}
 use Rattle.tables.specs.Labels.{request, dns, Label}
 use Rattle.wim.specs.Sending.{send}
 use Rattle.fresh.specs.Brings.{Brings}

@@ -1,7 +1,7 @@
 -- A step of a browser that is open: what its program says, then 5, then 6; and whether the browser is closed then.
 use mathlib.Core.Bool.{Bool, false}
 use Rattle.types.specs.declared.browser.Browser.{Browser as State}
-use Rattle.types.specs.declared.labels.Fresh.{Fresh}
+use Rattle.types.specs.declared.Fresh.{Fresh}
 use Rattle.types.specs.declared.refusals.Performed.{Performed}
 use Rattle.wim.specs.Program.{Program, run}
 use Rattle.wim.specs.Step.{freshLabels, admit, concluded}

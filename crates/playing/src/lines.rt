@@ -10,9 +10,9 @@ ghost use Rattle.playing.specs.declared.looking.Halt.the-variants.{Stopp
 ghost use Rattle.playing.specs.Lines.{answerText, lineBytes, lastLine, Adds, Answered};
 use crate::looking::Halt;
 use rehearsal::number;
+use types::Request;
+use types::Sent;
 use types::refusals::Verdict;
-use types::requests::Request;
-use types::requests::Sent;
 use writing::length_of;
 use writing::write_event;
 

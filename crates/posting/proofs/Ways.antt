@@ -6,7 +6,7 @@ use mathlib.Core.Option.{Option, none}
 use Prim.Native.Nat.{ℕ}
 use lib.ListN.{length}
 use Rattle.types.specs.declared.commands.Addressee.{Addressee}
-use Rattle.types.specs.declared.labels.WindowNumber.{WindowNumber}
+use Rattle.types.specs.declared.WindowNumber.{WindowNumber}
 use Rattle.types.specs.declared.refusals.Missing.the-variants.{NoWindow}
 use Rattle.types.specs.declared.refusals.Refusal.the-variants.{Lacking}
 use Rattle.types.specs.declared.rows.Document.{Document}

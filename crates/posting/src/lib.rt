@@ -1,10 +1,10 @@
 // A message for the script of another window: 000 A7:83 to 87, POSTMESSAGE.
 use scene::Scene;
+use types::Fresh;
+use types::WindowNumber;
 use types::browser::Browser;
 use types::browser::Inputs;
 use types::commands::Addressee;
-use types::labels::Fresh;
-use types::labels::WindowNumber;
 use types::refusals::Missing;
 use types::refusals::Performed;
 use types::refusals::Refusal;

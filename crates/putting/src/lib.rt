@@ -1,10 +1,10 @@
 // Rows put into a draft: where a table has no room the draft is full from then on.
-use types::addresses::Host;
-use types::addresses::Origin;
+use types::Host;
+use types::Origin;
+use types::WindowNumber;
 use types::browser::Draft;
 use types::cookies::SetCookies;
 use types::items::Stored;
-use types::labels::WindowNumber;
 use types::rows::Document;
 use types::rows::Input;
 use types::rows::LocalValue;

@@ -5,12 +5,12 @@ ghost use Rattle.shapes.specs.Items.{freshOf};
 use csexp::Count;
 use csexp::labelled;
 use csexp::mark;
-use types::labels::DnsNumber;
-use types::labels::DocumentNumber;
-use types::labels::Fresh;
-use types::labels::KeyNumber;
-use types::labels::RequestNumber;
-use types::labels::WindowNumber;
+use types::DnsNumber;
+use types::DocumentNumber;
+use types::Fresh;
+use types::KeyNumber;
+use types::RequestNumber;
+use types::WindowNumber;
 
 // A number under this label, or 0 and the position itself.
 fn fresh_number(s: &[u8], at: usize, label: &[u8]) -> Count

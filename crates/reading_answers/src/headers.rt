@@ -9,9 +9,9 @@ use csexp::word;
 use reading_parts::NO_COOKIES;
 use reading_parts::read_cookies;
 use reading_parts::read_url;
+use types::Policy;
 use types::answers::Headers;
 use types::answers::Location;
-use types::requests::Policy;
 
 pub struct HeadersAt {
     pub value: Headers,

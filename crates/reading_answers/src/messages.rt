@@ -9,17 +9,17 @@ use csexp::mark;
 use csexp::word;
 use reading_parts::NO_COOKIES;
 use reading_parts::short_number;
-use types::addresses::Address;
-use types::addresses::Host;
+use types::Address;
+use types::DnsNumber;
+use types::Host;
+use types::KeyNumber;
+use types::RequestNumber;
 use types::answers::Answer;
 use types::answers::DnsAnswer;
 use types::answers::Reply;
 use types::answers::Status;
 use types::items::Event;
 use types::items::Happening;
-use types::labels::DnsNumber;
-use types::labels::KeyNumber;
-use types::labels::RequestNumber;
 
 pub struct ReplyAt {
     pub value: Reply,

@@ -10,8 +10,8 @@ use csexp::word;
 use methods::read_method;
 use reading_parts::read_flag;
 use reading_parts::read_url;
+use types::Data;
 use types::commands::Command;
-use types::requests::Data;
 
 pub struct CommandAt {
     pub value: Command,

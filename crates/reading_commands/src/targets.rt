@@ -6,10 +6,10 @@ use csexp::number;
 use csexp::word;
 use reading_parts::read_origin;
 use reading_parts::read_window;
+use types::Matching;
 use types::commands::Addressee;
 use types::commands::Holder;
 use types::commands::Target;
-use types::requests::Matching;
 
 pub struct TargetAt {
     pub value: Target,

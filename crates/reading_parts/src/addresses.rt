@@ -7,13 +7,13 @@ use csexp::mark;
 use csexp::number;
 use csexp::optional;
 use csexp::word;
-use types::addresses::Fragment;
-use types::addresses::Host;
-use types::addresses::Origin;
-use types::addresses::Parameters;
-use types::addresses::Path;
-use types::addresses::Protocol;
-use types::addresses::Url;
+use types::Fragment;
+use types::Host;
+use types::Origin;
+use types::Parameters;
+use types::Path;
+use types::Protocol;
+use types::Url;
 
 pub struct ProtocolAt {
     pub value: Protocol,

@@ -5,7 +5,7 @@ ghost use Rattle.shapes.specs.Items.{windowOf};
 use csexp::LOST;
 use csexp::labelled;
 use csexp::number;
-use types::labels::WindowNumber;
+use types::WindowNumber;
 
 pub struct Short {
     pub value: u16,

@@ -1,11 +1,11 @@
 -- The way through a redirect, on any tables and fresh numbers. No code stands here.
 use mathlib.Core.Path.{_≡_, sym, _∙_, ap}
 use mathlib.Core.List.{List}
-use Rattle.types.specs.declared.addresses.Url.{Url}
+use Rattle.types.specs.declared.Url.{Url}
 use Rattle.types.specs.declared.answers.Answer.{Answer}
 use Rattle.types.specs.declared.cookies.Cookie.{Cookie}
-use Rattle.types.specs.declared.labels.Fresh.{Fresh}
-use Rattle.types.specs.declared.requests.Sending.{Sending}
+use Rattle.types.specs.declared.Fresh.{Fresh}
+use Rattle.types.specs.declared.Sending.{Sending}
 use Rattle.types.specs.declared.rows.Waiting.{Waiting}
 use Rattle.tables.specs.Tables.{Tables}
 use Rattle.wim.specs.Program.{Program, run}

@@ -1,11 +1,11 @@
 -- The ways through reload, on any tables and fresh numbers. No code stands here.
 use mathlib.Core.Path.{_≡_, refl, _∙_, ap}
 use mathlib.Core.List.{List}
-use Rattle.types.specs.declared.labels.Fresh.{Fresh}
-use Rattle.types.specs.declared.labels.WindowNumber.{WindowNumber}
-use Rattle.types.specs.declared.requests.Cancelled.the-variants.{Bare}
-use Rattle.types.specs.declared.requests.Reference.the-variants.{Req}
-use Rattle.types.specs.declared.requests.Sending.{Sending}
+use Rattle.types.specs.declared.Fresh.{Fresh}
+use Rattle.types.specs.declared.WindowNumber.{WindowNumber}
+use Rattle.types.specs.declared.Cancelled.the-variants.{Bare}
+use Rattle.types.specs.declared.Reference.the-variants.{Req}
+use Rattle.types.specs.declared.Sending.{Sending}
 use Rattle.types.specs.declared.rows.Document.{Document}
 use Rattle.tables.specs.Tables.{Tables}
 use Rattle.tables.specs.Labels.{Label}

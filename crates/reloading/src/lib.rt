@@ -1,12 +1,12 @@
 // 000 Algorithm 9, lines 30 to 36: reload.
 use shown_in::Shown;
+use types::Cancelled;
+use types::Fresh;
+use types::Wants;
+use types::WindowNumber;
 use types::browser::Browser;
-use types::labels::Fresh;
-use types::labels::Wants;
-use types::labels::WindowNumber;
 use types::refusals::Performed;
 use types::refusals::Refusal;
-use types::requests::Cancelled;
 use types::rows::Document;
 ghost use Rattle.wim.specs.Main.{reload};
 ghost use Rattle.performing.specs.Performs.{Performs};

@@ -1,7 +1,7 @@
 // What redirects and scripts ask of a request: which methods a command takes, which carry their data in the body, and whose an address is.
-use types::addresses::Origin;
-use types::addresses::Url;
-use types::requests::Method;
+use types::Method;
+use types::Origin;
+use types::Url;
 ghost use mathlib.Core.Path.{_≡_};
 ghost use Rattle.wim.specs.Script.{isFormMethod, isGet, isForbidden, isGetOrHead, urlOrigin};
 

@@ -3,14 +3,14 @@ use mathlib.Core.Path.{_≡_, refl, sym, _∙_, ap}
 use mathlib.Core.Bool.{Bool, true, false}
 use mathlib.Core.List.{List}
 use mathlib.Core.Option.{Option, some}
-use Rattle.types.specs.declared.addresses.Address.{Address}
-use Rattle.types.specs.declared.addresses.Protocol.the-variants.{Plain, Secure}
+use Rattle.types.specs.declared.Address.{Address}
+use Rattle.types.specs.declared.Protocol.the-variants.{Plain, Secure}
 use Rattle.types.specs.declared.answers.DnsAnswer.{DnsAnswer}
-use Rattle.types.specs.declared.labels.Fresh.{Fresh}
-use Rattle.types.specs.declared.labels.Wants.{Wants}
+use Rattle.types.specs.declared.Fresh.{Fresh}
+use Rattle.types.specs.declared.Wants.{Wants}
 use Rattle.types.specs.declared.refusals.Missing.the-variants.{NoQuestion, Mismatch}
 use Rattle.types.specs.declared.refusals.Refusal.the-variants.{Lacking}
-use Rattle.types.specs.declared.requests.Seal.the-variants.{Keyless, Keyed}
+use Rattle.types.specs.declared.Seal.the-variants.{Keyless, Keyed}
 use Rattle.types.specs.declared.rows.Question.{Question}
 use Rattle.sorted.specs.Table.{at, looked}
 use Rattle.tables.specs.Tables.{pendingDNS, keyOf, cmp, Tables}

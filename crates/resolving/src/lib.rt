@@ -1,21 +1,21 @@
 // 000 Algorithm 9, lines 64 to 74: a DNS answer. The request that waited for its host's address goes out, and waits for its answer.
-use types::addresses::Address;
-use types::addresses::Protocol;
+use types::Address;
+use types::Fresh;
+use types::Protocol;
+use types::Seal;
+use types::Sent;
+use types::Wants;
 use types::answers::DnsAnswer;
 use types::browser::Browser;
-use types::labels::Fresh;
-use types::labels::Wants;
 use types::refusals::Missing;
 use types::refusals::Performed;
 use types::refusals::Refusal;
-use types::requests::Seal;
-use types::requests::Sent;
 use types::rows::Question;
 use types::rows::Waiting;
 ghost use mathlib.Core.Path.{_≡_};
 ghost use mathlib.Core.Bool.{false};
 ghost use mathlib.Core.Option.{some};
-ghost use Rattle.types.specs.declared.addresses.Protocol.the-variants.{Plain, Secure};
+ghost use Rattle.types.specs.declared.Protocol.the-variants.{Plain, Secure};
 ghost use Rattle.shapes.specs.Events.{messageOf};
 ghost use Rattle.wim.specs.Program.{ask, question, made};
 ghost use Rattle.wim.specs.Main.{waitingOf, goOut, resolved};

@@ -1,14 +1,14 @@
 // 000 Algorithm 8, PROCESSRESPONSE: what an answer does, for a window or for a script.
+use types::Fresh;
+use types::Reference;
+use types::WindowNumber;
 use types::answers::Answer;
 use types::answers::Body;
 use types::answers::Location;
 use types::answers::Status;
 use types::browser::Browser;
 use types::cookies::SetCookies;
-use types::labels::Fresh;
-use types::labels::WindowNumber;
 use types::refusals::Performed;
-use types::requests::Reference;
 use types::rows::Waiting;
 ghost use mathlib.Core.Path.{_≡_};
 ghost use lib.ListN.{take};

@@ -1,6 +1,6 @@
 -- What GETWINDOW gives for a window in these tables (000 A2).
 use mathlib.Core.List.{List}
-use Rattle.types.specs.declared.labels.WindowNumber.{WindowNumber}
+use Rattle.types.specs.declared.WindowNumber.{WindowNumber}
 use Rattle.types.specs.declared.rows.Document.{Document}
 use Rattle.types.specs.declared.rows.Window.{Window}
 use Rattle.wim.specs.Program.{when, withOrigin}

@@ -1,10 +1,10 @@
 // What a script's step stands on (000 Algorithm 7), the document that a command means, and what a step stores whatever its command is.
+use types::WindowNumber;
 use types::browser::Documents;
 use types::browser::Draft;
 use types::browser::Windows;
 use types::cookies::SetCookies;
 use types::items::Output;
-use types::labels::WindowNumber;
 use types::rows::Document;
 ghost use mathlib.Core.Path.{_≡_};
 ghost use mathlib.Core.List.{[], _∷_};

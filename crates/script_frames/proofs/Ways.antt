@@ -1,16 +1,16 @@
 -- The ways through IFRAME, on any tables and fresh numbers. No code stands here.
 use mathlib.Core.Path.{_≡_, refl, sym, _∙_, ap}
 use mathlib.Core.List.{List, [], _∷_}
-use Rattle.types.specs.declared.addresses.Url.{Url}
+use Rattle.types.specs.declared.Url.{Url}
 use Rattle.types.specs.declared.browser.Browser.{Browser as State}
 use Rattle.types.specs.declared.commands.Holder.the-variants.{Itself, Within}
-use Rattle.types.specs.declared.labels.Fresh.{Fresh}
-use Rattle.types.specs.declared.labels.WindowNumber.{WindowNumber}
+use Rattle.types.specs.declared.Fresh.{Fresh}
+use Rattle.types.specs.declared.WindowNumber.{WindowNumber}
 use Rattle.types.specs.declared.refusals.Performed.{Performed}
-use Rattle.types.specs.declared.requests.Method.the-variants.{Get}
-use Rattle.types.specs.declared.requests.OriginHeader.the-variants.{Unsent}
-use Rattle.types.specs.declared.requests.Reference.the-variants.{Req}
-use Rattle.types.specs.declared.requests.Sending.{Sending}
+use Rattle.types.specs.declared.Method.the-variants.{Get}
+use Rattle.types.specs.declared.OriginHeader.the-variants.{Unsent}
+use Rattle.types.specs.declared.Reference.the-variants.{Req}
+use Rattle.types.specs.declared.Sending.{Sending}
 use Rattle.types.specs.declared.rows.Document.{Document}
 use Rattle.types.specs.declared.rows.Window.{Window}
 use Rattle.sorted.specs.Table.{put}

@@ -1,12 +1,12 @@
 // The command of a script that hangs a frame into a page: IFRAME (000 A7:27 to 35).
 use scene::Scene;
-use types::addresses::Url;
+use types::DocumentNumber;
+use types::Fresh;
+use types::Url;
+use types::Wants;
+use types::WindowNumber;
 use types::browser::Browser;
 use types::commands::Holder;
-use types::labels::DocumentNumber;
-use types::labels::Fresh;
-use types::labels::Wants;
-use types::labels::WindowNumber;
 use types::refusals::Performed;
 use types::refusals::Refusal;
 use types::rows::Document;

@@ -2,20 +2,20 @@
 use mathlib.Core.Path.{_≡_, refl, sym, _∙_, ap}
 use mathlib.Core.Bool.{Bool, true, false, cond}
 use mathlib.Core.List.{List}
-use Rattle.types.specs.declared.addresses.Url.{Url}
+use Rattle.types.specs.declared.Url.{Url}
 use Rattle.types.specs.declared.browser.Browser.{Browser as State}
 use Rattle.types.specs.declared.commands.Target.{Target}
 use Rattle.types.specs.declared.commands.Target.the-variants.{NewWindow, Existing}
-use Rattle.types.specs.declared.labels.Fresh.{Fresh}
-use Rattle.types.specs.declared.labels.WindowNumber.{WindowNumber}
+use Rattle.types.specs.declared.Fresh.{Fresh}
+use Rattle.types.specs.declared.WindowNumber.{WindowNumber}
 use Rattle.types.specs.declared.refusals.Performed.{Performed}
 use Rattle.types.specs.declared.refusals.Refusal.the-variants.{Stopped}
-use Rattle.types.specs.declared.requests.Data.{Data}
-use Rattle.types.specs.declared.requests.Method.{Method}
-use Rattle.types.specs.declared.requests.Method.the-variants.{Get}
-use Rattle.types.specs.declared.requests.OriginHeader.the-variants.{Unsent}
-use Rattle.types.specs.declared.requests.Reference.the-variants.{Req}
-use Rattle.types.specs.declared.requests.Sending.{Sending}
+use Rattle.types.specs.declared.Data.{Data}
+use Rattle.types.specs.declared.Method.{Method}
+use Rattle.types.specs.declared.Method.the-variants.{Get}
+use Rattle.types.specs.declared.OriginHeader.the-variants.{Unsent}
+use Rattle.types.specs.declared.Reference.the-variants.{Req}
+use Rattle.types.specs.declared.Sending.{Sending}
 use Rattle.types.specs.declared.rows.Document.{Document}
 use Rattle.types.specs.declared.rows.Opener.{Opener}
 use Rattle.types.specs.declared.rows.Opener.the-variants.{OpenedBy}

@@ -1,16 +1,16 @@
 // The commands of a script that load a page into a window: HREF and FORM (000 A7:19 to 26 and 36 to 51).
 use scene::Scene;
 use script_navigation::navigate;
-use types::addresses::Url;
+use types::Data;
+use types::Fresh;
+use types::Method;
+use types::Reference;
+use types::Url;
+use types::WindowNumber;
 use types::browser::Browser;
 use types::commands::Target;
-use types::labels::Fresh;
-use types::labels::WindowNumber;
 use types::refusals::Performed;
 use types::refusals::Refusal;
-use types::requests::Data;
-use types::requests::Method;
-use types::requests::Reference;
 use types::rows::Opener;
 ghost use mathlib.Core.Path.{_≡_};
 ghost use Rattle.wim.specs.Script.{openerUnless, href, form};

@@ -10,8 +10,8 @@ use borrow.Author.Tests.{leb-true, leb-false}
 use lib.Dec.{leb}
 use lib.ListN.{length, take, length-map, length-take}
 use lib.Seq.{take-all, take-take}
-use Rattle.types.specs.declared.labels.DocumentNumber.{DocumentNumber}
-use Rattle.types.specs.declared.labels.WindowNumber.{WindowNumber}
+use Rattle.types.specs.declared.DocumentNumber.{DocumentNumber}
+use Rattle.types.specs.declared.WindowNumber.{WindowNumber}
 use Rattle.types.specs.declared.rows.Document.{Document}
 use Rattle.types.specs.declared.rows.Window.{Window}
 use Rattle.sorted.specs.Table.{keep}

@@ -5,8 +5,8 @@ use mathlib.Core.Option.{none}
 use Rattle.types.specs.declared.browser.Browser.{Browser as State}
 use Rattle.types.specs.declared.browser.Draft.{Draft}
 use Rattle.types.specs.declared.commands.Command.the-variants.{Close}
-use Rattle.types.specs.declared.labels.Fresh.{Fresh}
-use Rattle.types.specs.declared.labels.WindowNumber.{WindowNumber}
+use Rattle.types.specs.declared.Fresh.{Fresh}
+use Rattle.types.specs.declared.WindowNumber.{WindowNumber}
 use Rattle.types.specs.declared.refusals.Performed.{Performed}
 use Rattle.tables.specs.Tables.{windows, documents, cookies, localStorage, sessionStorage, inputs}
 use Rattle.wim.specs.Walks.{documentsOf, Removal, removal}

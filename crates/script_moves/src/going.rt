@@ -1,9 +1,9 @@
 // What goes when a window is closed (000 A7:81): the window itself, its documents, and all that stands under them.
+use types::WindowNumber;
+use types::WindowNumbers;
 use types::browser::Documents;
 use types::browser::WINDOWS;
 use types::browser::Windows;
-use types::labels::WindowNumber;
-use types::labels::WindowNumbers;
 use walks::told::Removal;
 ghost use mathlib.Core.Path.{_≡_};
 ghost use mathlib.Core.List.{_∷_, map};

@@ -3,9 +3,9 @@ mod going; // what goes when a window is closed
 
 use history::Towards;
 use scene::Scene;
+use types::Fresh;
+use types::WindowNumber;
 use types::browser::Browser;
-use types::labels::Fresh;
-use types::labels::WindowNumber;
 use types::refusals::Performed;
 ghost use mathlib.Core.Path.{_≡_};
 ghost use Rattle.types.specs.declared.commands.Command.the-variants.{Back, Forward, Close};

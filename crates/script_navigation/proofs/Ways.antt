@@ -3,12 +3,12 @@ use mathlib.Core.Path.{_≡_, refl, sym, _∙_, ap}
 use mathlib.Core.List.{List, [], _∷_}
 use Rattle.types.specs.declared.browser.Browser.{Browser as State}
 use Rattle.types.specs.declared.commands.Target.the-variants.{NewWindow, Existing}
-use Rattle.types.specs.declared.labels.Fresh.{Fresh}
-use Rattle.types.specs.declared.labels.WindowNumber.{WindowNumber}
+use Rattle.types.specs.declared.Fresh.{Fresh}
+use Rattle.types.specs.declared.WindowNumber.{WindowNumber}
 use Rattle.types.specs.declared.refusals.Performed.{Performed}
-use Rattle.types.specs.declared.requests.Cancelled.the-variants.{Labelled}
-use Rattle.types.specs.declared.requests.Reference.the-variants.{Req}
-use Rattle.types.specs.declared.requests.Sending.{Sending}
+use Rattle.types.specs.declared.Cancelled.the-variants.{Labelled}
+use Rattle.types.specs.declared.Reference.the-variants.{Req}
+use Rattle.types.specs.declared.Sending.{Sending}
 use Rattle.types.specs.declared.rows.Opener.{Opener}
 use Rattle.types.specs.declared.rows.Window.{Window}
 use Rattle.sorted.specs.Table.{put}

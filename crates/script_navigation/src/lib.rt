@@ -1,16 +1,16 @@
 // A page goes into a window, a new one or one that is there. This is all of HREF and FORM (000 A7:19 to 26, 36 to 51) but what is sent, and the opener
 // of a new window.
 use scene::Scene;
+use types::Cancelled;
+use types::Fresh;
+use types::Reference;
+use types::Sending;
+use types::Wants;
+use types::WindowNumber;
 use types::browser::Browser;
 use types::commands::Target;
-use types::labels::Fresh;
-use types::labels::Wants;
-use types::labels::WindowNumber;
 use types::refusals::Performed;
 use types::refusals::Refusal;
-use types::requests::Cancelled;
-use types::requests::Reference;
-use types::requests::Sending;
 use types::rows::Opener;
 use types::rows::Parent;
 use types::rows::Window;

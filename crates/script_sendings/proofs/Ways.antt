@@ -4,10 +4,10 @@ use mathlib.Core.Bool.{true, false}
 use mathlib.Core.List.{List}
 use Rattle.types.specs.declared.browser.Browser.{Browser as State}
 use Rattle.types.specs.declared.browser.Draft.{Draft}
-use Rattle.types.specs.declared.labels.Fresh.{Fresh}
-use Rattle.types.specs.declared.labels.Wants.{Wants}
+use Rattle.types.specs.declared.Fresh.{Fresh}
+use Rattle.types.specs.declared.Wants.{Wants}
 use Rattle.types.specs.declared.refusals.Performed.{Performed}
-use Rattle.types.specs.declared.requests.Sending.{Sending}
+use Rattle.types.specs.declared.Sending.{Sending}
 use Rattle.tables.specs.Tables.{Table, Tables}
 use Rattle.wim.specs.Program.{Program, Outcome, run}
 use Rattle.wim.specs.Sending.{send}

@@ -1,21 +1,21 @@
 // What goes out by each command: the script's document is the referrer (A7:15), and its policy goes with it (A7:16).
 use request_tests::is_get;
 use request_tests::is_get_or_head;
-use types::addresses::Parameters;
-use types::addresses::Url;
-use types::labels::WindowNumber;
-use types::requests::Data;
-use types::requests::Method;
-use types::requests::OriginHeader;
-use types::requests::Policy;
-use types::requests::Reference;
-use types::requests::Referrer;
-use types::requests::Sending;
+use types::Data;
+use types::Method;
+use types::OriginHeader;
+use types::Parameters;
+use types::Policy;
+use types::Reference;
+use types::Referrer;
+use types::Sending;
+use types::Url;
+use types::WindowNumber;
 use types::rows::Document;
 ghost use mathlib.Core.Path.{_≡_};
-ghost use Rattle.types.specs.declared.requests.Method.the-variants.{Get};
-ghost use Rattle.types.specs.declared.requests.OriginHeader.the-variants.{Unsent, From};
-ghost use Rattle.types.specs.declared.requests.Reference.the-variants.{Req};
+ghost use Rattle.types.specs.declared.Method.the-variants.{Get};
+ghost use Rattle.types.specs.declared.OriginHeader.the-variants.{Unsent, From};
+ghost use Rattle.types.specs.declared.Reference.the-variants.{Req};
 ghost use Rattle.tables.specs.Rows.{originOf};
 ghost use Rattle.wim.specs.Script.{noData, sendingFrom, hrefPolicy, formSending, xhrSending};
 

@@ -2,7 +2,7 @@
 use mathlib.Core.Path.{_≡_, refl, sym, ap}
 use mathlib.Core.List.{List, [], map}
 use mathlib.Core.Option.{none}
-use Rattle.types.specs.declared.labels.WindowNumber.{WindowNumber}
+use Rattle.types.specs.declared.WindowNumber.{WindowNumber}
 use Rattle.types.specs.declared.rows.Document.{Document}
 use Rattle.tables.specs.Tables.{windows, documents, Tables, update}
 use Rattle.tables.specs.Labels.{Label}

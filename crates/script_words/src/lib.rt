@@ -1,10 +1,10 @@
 // What a script does to its own browser (000 A7:52 to 59): nothing beyond what every step stores, or the script, or a script's state, of a document is set.
 use scene::Scene;
+use types::Fresh;
+use types::WindowNumber;
 use types::browser::Browser;
 use types::commands::Script;
 use types::commands::ScriptState;
-use types::labels::Fresh;
-use types::labels::WindowNumber;
 use types::refusals::Performed;
 ghost use mathlib.Core.Option.{none};
 ghost use Rattle.tables.specs.Tables.{documents};

@@ -2,16 +2,16 @@
 use mathlib.Core.Path.{_≡_, refl, sym, _∙_, ap}
 use mathlib.Core.Bool.{true, false}
 use mathlib.Core.List.{List}
-use Rattle.types.specs.declared.addresses.Origin.{Origin}
-use Rattle.types.specs.declared.addresses.Url.{Url}
+use Rattle.types.specs.declared.Origin.{Origin}
+use Rattle.types.specs.declared.Url.{Url}
 use Rattle.types.specs.declared.browser.Browser.{Browser as State}
-use Rattle.types.specs.declared.labels.Fresh.{Fresh}
+use Rattle.types.specs.declared.Fresh.{Fresh}
 use Rattle.types.specs.declared.refusals.Performed.{Performed}
 use Rattle.types.specs.declared.refusals.Refusal.the-variants.{Stopped}
-use Rattle.types.specs.declared.requests.Data.{Data}
-use Rattle.types.specs.declared.requests.Method.{Method}
-use Rattle.types.specs.declared.requests.Reference.{Reference}
-use Rattle.types.specs.declared.requests.Sending.{Sending}
+use Rattle.types.specs.declared.Data.{Data}
+use Rattle.types.specs.declared.Method.{Method}
+use Rattle.types.specs.declared.Reference.{Reference}
+use Rattle.types.specs.declared.Sending.{Sending}
 use Rattle.types.specs.declared.rows.Document.{Document}
 use Rattle.tables.specs.Tables.{Tables}
 use Rattle.tables.specs.Labels.{Label}

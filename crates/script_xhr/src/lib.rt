@@ -1,18 +1,18 @@
 // The command of a script that fetches for the script itself: XMLHTTPREQUEST (000 A7:60 to 72).
 use scene::Scene;
-use types::addresses::Url;
+use types::Data;
+use types::Fresh;
+use types::Matching;
+use types::Method;
+use types::Reference;
+use types::Sending;
+use types::Url;
+use types::Wants;
 use types::browser::Browser;
-use types::labels::Fresh;
-use types::labels::Wants;
 use types::refusals::Performed;
 use types::refusals::Refusal;
-use types::requests::Data;
-use types::requests::Matching;
-use types::requests::Method;
-use types::requests::Reference;
-use types::requests::Sending;
 ghost use mathlib.Core.Path.{_≡_};
-ghost use Rattle.types.specs.declared.requests.Reference.the-variants.{Xhr};
+ghost use Rattle.types.specs.declared.Reference.the-variants.{Xhr};
 ghost use Rattle.wim.specs.Script.{xhr};
 ghost use Rattle.wim.specs.Sending.{send};
 ghost use Rattle.scene.specs.Stored.{first};

@@ -6,8 +6,8 @@ use Rattle.types.specs.declared.browser.Browser.{Browser as State}
 use Rattle.types.specs.declared.commands.Command.{Command}
 use Rattle.types.specs.declared.cookies.Cookie.{Cookie}
 use Rattle.types.specs.declared.items.Output.{Output}
-use Rattle.types.specs.declared.labels.Fresh.{Fresh}
-use Rattle.types.specs.declared.labels.WindowNumber.{WindowNumber}
+use Rattle.types.specs.declared.Fresh.{Fresh}
+use Rattle.types.specs.declared.WindowNumber.{WindowNumber}
 use Rattle.types.specs.declared.refusals.Performed.{Performed}
 use Rattle.types.specs.declared.rows.HostCookie.{HostCookie}
 use Rattle.sorted.specs.Table.{keep}

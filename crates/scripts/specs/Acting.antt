@@ -2,7 +2,7 @@
 use mathlib.Core.List.{List}
 use Rattle.types.specs.declared.cookies.Cookie.{Cookie}
 use Rattle.types.specs.declared.items.Output.{Output}
-use Rattle.types.specs.declared.labels.WindowNumber.{WindowNumber}
+use Rattle.types.specs.declared.WindowNumber.{WindowNumber}
 use Rattle.types.specs.declared.rows.Document.{Document}
 use Rattle.wim.specs.Program.{Program, ask, cookiesOf, _>>=_}
 use Rattle.wim.specs.Cookies.{cookieMerge}

@@ -1,12 +1,12 @@
 // 000 Algorithm 7, RUNSCRIPT, called from A9:9 to 12.
 use scene::Scene;
 use shown_in::Shown;
+use types::Fresh;
+use types::WindowNumber;
 use types::browser::Browser;
 use types::commands::Command;
 use types::cookies::SetCookies;
 use types::items::Output;
-use types::labels::Fresh;
-use types::labels::WindowNumber;
 use types::refusals::Performed;
 use types::refusals::Refusal;
 use types::rows::Document;

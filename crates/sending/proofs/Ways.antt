@@ -4,16 +4,16 @@ use mathlib.Core.Bool.{Bool, true, false, cond, _&&_}
 use mathlib.Core.List.{List, [], _∷_, map}
 use mathlib.Core.Option.{Option, some}
 use Prim.Native.Nat.{ℕ}
-use Rattle.types.specs.declared.addresses.Url.{Url}
+use Rattle.types.specs.declared.Url.{Url}
 use Rattle.types.specs.declared.cookies.Jar.{Jar}
 use Rattle.types.specs.declared.rows.HostCookie.{HostCookie}
 use Rattle.types.specs.declared.browser.Browser.{Browser as State}
 use Rattle.types.specs.declared.browser.Draft.{Draft}
 use Rattle.types.specs.declared.refusals.Performed.{Performed}
 use Rattle.types.specs.declared.refusals.Refusal.the-variants.{Full}
-use Rattle.types.specs.declared.requests.Request.{Request}
-use Rattle.types.specs.declared.requests.Sending.{Sending}
-use Rattle.types.specs.declared.requests.Sent.the-variants.{Resolve}
+use Rattle.types.specs.declared.Request.{Request}
+use Rattle.types.specs.declared.Sending.{Sending}
+use Rattle.types.specs.declared.Sent.the-variants.{Resolve}
 use Rattle.types.specs.declared.rows.Question.{Question}
 use Rattle.sorted.specs.Table.{keep, isSome, at, put}
 use Rattle.tables.specs.Tables.{Table, cookies, pendingDNS, sts as strictHosts, keyOf, cmp, Tables, apply}

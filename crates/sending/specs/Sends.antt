@@ -5,7 +5,7 @@ use Prim.Native.Nat.{ℕ}
 use Rattle.types.specs.declared.browser.Browser.{Browser as State}
 use Rattle.types.specs.declared.browser.Draft.{Draft}
 use Rattle.types.specs.declared.refusals.Performed.{Performed}
-use Rattle.types.specs.declared.requests.Sending.{Sending}
+use Rattle.types.specs.declared.Sending.{Sending}
 use Rattle.tables.specs.Tables.{Table, Tables}
 use Rattle.tables.specs.Labels.{request, dns}
 use Rattle.wim.specs.Program.{run}

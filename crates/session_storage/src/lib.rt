@@ -1,12 +1,12 @@
 // What scripts keep in session storage, by origin and top-level window. Written by tools/tables.py.
-use types::addresses::Host;
-use types::addresses::Origin;
-use types::addresses::Protocol;
+use types::Host;
+use types::Label;
+use types::Origin;
+use types::Protocol;
+use types::WindowNumber;
 use types::browser::SESSION_STORAGE;
 use types::browser::SessionStorage;
 use types::items::Stored;
-use types::labels::Label;
-use types::labels::WindowNumber;
 use types::rows::SessionValue;
 ghost use mathlib.Core.Path.{_≡_};
 ghost use mathlib.Core.Bool.{not};

@@ -1,49 +1,49 @@
 -- The declared types that the definitions speak of, under one roof.
-pub use Rattle.types.specs.declared.labels.WindowNumber.{WindowNumber}
-pub use Rattle.types.specs.declared.labels.DocumentNumber.{DocumentNumber}
-pub use Rattle.types.specs.declared.labels.RequestNumber.{RequestNumber}
-pub use Rattle.types.specs.declared.labels.DnsNumber.{DnsNumber}
-pub use Rattle.types.specs.declared.labels.KeyNumber.{KeyNumber}
-pub use Rattle.types.specs.declared.labels.Label.{Label as Mark}
-pub use Rattle.types.specs.declared.labels.Label.the-variants.{OfWindow, OfRequest, OfDns, OfKey, OfDocument}
-pub use Rattle.types.specs.declared.labels.Fresh.{Fresh}
-pub use Rattle.types.specs.declared.addresses.Host.{Host}
-pub use Rattle.types.specs.declared.addresses.Address.{Address}
-pub use Rattle.types.specs.declared.addresses.Path.{Path}
-pub use Rattle.types.specs.declared.addresses.Parameters.{Parameters}
-pub use Rattle.types.specs.declared.addresses.Protocol.{Protocol}
-pub use Rattle.types.specs.declared.addresses.Protocol.the-variants.{Plain, Secure}
-pub use Rattle.types.specs.declared.addresses.Fragment.{Fragment}
-pub use Rattle.types.specs.declared.addresses.Fragment.the-variants.{Absent, Named}
-pub use Rattle.types.specs.declared.addresses.Url.{Url}
-pub use Rattle.types.specs.declared.addresses.Origin.{Origin}
+pub use Rattle.types.specs.declared.WindowNumber.{WindowNumber}
+pub use Rattle.types.specs.declared.DocumentNumber.{DocumentNumber}
+pub use Rattle.types.specs.declared.RequestNumber.{RequestNumber}
+pub use Rattle.types.specs.declared.DnsNumber.{DnsNumber}
+pub use Rattle.types.specs.declared.KeyNumber.{KeyNumber}
+pub use Rattle.types.specs.declared.Label.{Label as Mark}
+pub use Rattle.types.specs.declared.Label.the-variants.{OfWindow, OfRequest, OfDns, OfKey, OfDocument}
+pub use Rattle.types.specs.declared.Fresh.{Fresh}
+pub use Rattle.types.specs.declared.Host.{Host}
+pub use Rattle.types.specs.declared.Address.{Address}
+pub use Rattle.types.specs.declared.Path.{Path}
+pub use Rattle.types.specs.declared.Parameters.{Parameters}
+pub use Rattle.types.specs.declared.Protocol.{Protocol}
+pub use Rattle.types.specs.declared.Protocol.the-variants.{Plain, Secure}
+pub use Rattle.types.specs.declared.Fragment.{Fragment}
+pub use Rattle.types.specs.declared.Fragment.the-variants.{Absent, Named}
+pub use Rattle.types.specs.declared.Url.{Url}
+pub use Rattle.types.specs.declared.Origin.{Origin}
 pub use Rattle.types.specs.declared.cookies.CookieName.{CookieName}
 pub use Rattle.types.specs.declared.cookies.CookieValue.{CookieValue}
 pub use Rattle.types.specs.declared.cookies.Cookie.{Cookie}
 pub use Rattle.types.specs.declared.cookies.Pair.{Pair}
 pub use Rattle.types.specs.declared.cookies.SetCookies.{SetCookies}
 pub use Rattle.types.specs.declared.cookies.Jar.{Jar}
-pub use Rattle.types.specs.declared.requests.Method.{Method}
-pub use Rattle.types.specs.declared.requests.Method.the-variants.{Get, Head, Post, Put, Delete, Connect, Options, Trace}
-pub use Rattle.types.specs.declared.requests.Data.{Data}
-pub use Rattle.types.specs.declared.requests.OriginHeader.{OriginHeader}
-pub use Rattle.types.specs.declared.requests.OriginHeader.the-variants.{Unsent, Null, From}
-pub use Rattle.types.specs.declared.requests.Referrer.{Referrer}
-pub use Rattle.types.specs.declared.requests.Referrer.the-variants.{Unknown, Known}
-pub use Rattle.types.specs.declared.requests.Policy.{Policy}
-pub use Rattle.types.specs.declared.requests.Policy.the-variants.{Unset, NoReferrer, OriginOnly}
-pub use Rattle.types.specs.declared.requests.Matching.{Matching}
-pub use Rattle.types.specs.declared.requests.Matching.the-variants.{Unmatched, By}
-pub use Rattle.types.specs.declared.requests.Reference.{Reference}
-pub use Rattle.types.specs.declared.requests.Reference.the-variants.{Req, Xhr}
-pub use Rattle.types.specs.declared.requests.Cancelled.{Cancelled}
-pub use Rattle.types.specs.declared.requests.Cancelled.the-variants.{Bare, Labelled}
-pub use Rattle.types.specs.declared.requests.Request.{Request}
-pub use Rattle.types.specs.declared.requests.Sending.{Sending}
-pub use Rattle.types.specs.declared.requests.Seal.{Seal}
-pub use Rattle.types.specs.declared.requests.Seal.the-variants.{Keyless, Keyed}
-pub use Rattle.types.specs.declared.requests.Sent.{Sent}
-pub use Rattle.types.specs.declared.requests.Sent.the-variants.{Silence, Resolve, Open, Sealed}
+pub use Rattle.types.specs.declared.Method.{Method}
+pub use Rattle.types.specs.declared.Method.the-variants.{Get, Head, Post, Put, Delete, Connect, Options, Trace}
+pub use Rattle.types.specs.declared.Data.{Data}
+pub use Rattle.types.specs.declared.OriginHeader.{OriginHeader}
+pub use Rattle.types.specs.declared.OriginHeader.the-variants.{Unsent, Null, From}
+pub use Rattle.types.specs.declared.Referrer.{Referrer}
+pub use Rattle.types.specs.declared.Referrer.the-variants.{Unknown, Known}
+pub use Rattle.types.specs.declared.Policy.{Policy}
+pub use Rattle.types.specs.declared.Policy.the-variants.{Unset, NoReferrer, OriginOnly}
+pub use Rattle.types.specs.declared.Matching.{Matching}
+pub use Rattle.types.specs.declared.Matching.the-variants.{Unmatched, By}
+pub use Rattle.types.specs.declared.Reference.{Reference}
+pub use Rattle.types.specs.declared.Reference.the-variants.{Req, Xhr}
+pub use Rattle.types.specs.declared.Cancelled.{Cancelled}
+pub use Rattle.types.specs.declared.Cancelled.the-variants.{Bare, Labelled}
+pub use Rattle.types.specs.declared.Request.{Request}
+pub use Rattle.types.specs.declared.Sending.{Sending}
+pub use Rattle.types.specs.declared.Seal.{Seal}
+pub use Rattle.types.specs.declared.Seal.the-variants.{Keyless, Keyed}
+pub use Rattle.types.specs.declared.Sent.{Sent}
+pub use Rattle.types.specs.declared.Sent.the-variants.{Silence, Resolve, Open, Sealed}
 pub use Rattle.types.specs.declared.commands.Script.{Script}
 pub use Rattle.types.specs.declared.commands.ScriptState.{ScriptState}
 pub use Rattle.types.specs.declared.commands.Target.{Target}

@@ -1,7 +1,7 @@
 // The cookies that a script may see (000 A7:3): those of its document's host, without the httpOnly ones, and secure ones only over S.
 use csexp_write::close_list;
 use csexp_write::open_list;
-use types::addresses::Origin;
+use types::Origin;
 use types::browser::COOKIES;
 use types::browser::Cookies;
 use types::rows::HostCookie;

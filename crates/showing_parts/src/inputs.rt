@@ -2,9 +2,9 @@
 use crate::values::write_news;
 use csexp_write::close_list;
 use csexp_write::open_list;
+use types::DocumentNumber;
 use types::browser::INPUTS;
 use types::browser::Inputs;
-use types::labels::DocumentNumber;
 ghost use lib.ListN.{take};
 ghost use Rattle.csexp.specs.Term.{list};
 ghost use Rattle.csexp_write.specs.Encode.{each};

@@ -1,10 +1,10 @@
 // What the origin keeps: in local storage (000 A7:5), and in session storage under its top-level window (000 A7:6). () where it keeps nothing.
 use csexp_write::empty_list;
 use csexp_write::optional;
-use types::addresses::Origin;
+use types::Origin;
+use types::WindowNumber;
 use types::browser::LocalStorage;
 use types::browser::SessionStorage;
-use types::labels::WindowNumber;
 ghost use lib.ListN.{take};
 ghost use Rattle.csexp_write.specs.Puts.{Writes};
 ghost use Rattle.wim.specs.Shown.{localTerm, sessionTerm};

@@ -6,7 +6,7 @@ mod telling; // the line
 
 use libc::STDIN_FILENO;
 use libc::STDOUT_FILENO;
-use types::labels::WindowNumber;
+use types::WindowNumber;
 
 fn main() {
     let w = asked::window_asked();

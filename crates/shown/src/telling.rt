@@ -2,8 +2,8 @@
 use libc::STDOUT_FILENO;
 use rehearsal::number;
 use showing::show;
+use types::WindowNumber;
 use types::browser::Browser;
-use types::labels::WindowNumber;
 
 // 65,536 bytes hold what is shown of every browser that a run has made: each of at most 32 windows stands in the tree once.
 pub fn tell(b: Browser, w: WindowNumber) {

@@ -1,6 +1,6 @@
 -- What the two questions that stand before reload, back, forward and every script step are answered with, as one answer.
 use mathlib.Core.Option.{Option, none, some}
-use Rattle.types.specs.declared.labels.WindowNumber.{WindowNumber}
+use Rattle.types.specs.declared.WindowNumber.{WindowNumber}
 use Rattle.types.specs.declared.refusals.Missing.the-variants.{NoWindow, NoDocument}
 use Rattle.types.specs.declared.rows.Document.{Document}
 use Rattle.tables.specs.Tables.{Tables}

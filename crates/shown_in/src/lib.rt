@@ -1,6 +1,6 @@
 // The active document of a reached window: "w ← Subwindows(s') such that s'.w.documents ≠ ⟨⟩ if possible; otherwise stop" (000 A9:10, 31, 38, 41).
+use types::WindowNumber;
 use types::browser::Browser;
-use types::labels::WindowNumber;
 use types::refusals::Missing;
 use types::rows::Document;
 ghost use mathlib.Core.Path.{_≡_};

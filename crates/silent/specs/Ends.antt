@@ -4,7 +4,7 @@ use mathlib.Core.List.{List, []}
 use mathlib.Core.Option.{none}
 use Rattle.types.specs.declared.browser.Browser.{Browser as State}
 use Rattle.types.specs.declared.browser.Draft.{Draft}
-use Rattle.types.specs.declared.labels.Fresh.{Fresh}
+use Rattle.types.specs.declared.Fresh.{Fresh}
 use Rattle.types.specs.declared.refusals.Performed.{Performed}
 use Rattle.tables.specs.Tables.{Table, Tables}
 use Rattle.wim.specs.Program.{Program, made, run}

@@ -1,11 +1,11 @@
 // The end of a step that brings no number and sends nothing.
+use types::Fresh;
+use types::Sent;
+use types::Wants;
 use types::browser::Browser;
 use types::browser::Draft;
-use types::labels::Fresh;
-use types::labels::Wants;
 use types::refusals::Performed;
 use types::refusals::Refusal;
-use types::requests::Sent;
 ghost use Rattle.silent.specs.Ends.{Ends};
 
 // The browser b stands before the step, and d is what the step has made of it.

@@ -1,5 +1,5 @@
 // The hosts that are spoken to over S alone. Written by tools/tables.py.
-use types::addresses::Host;
+use types::Host;
 use types::browser::STS;
 use types::browser::Sts;
 use types::rows::StrictHost;

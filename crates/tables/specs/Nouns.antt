@@ -1,33 +1,33 @@
 -- The declared types that the definitions speak of, under one roof.
-pub use Rattle.types.specs.declared.labels.WindowNumber.{WindowNumber}
-pub use Rattle.types.specs.declared.labels.DocumentNumber.{DocumentNumber}
-pub use Rattle.types.specs.declared.labels.KeyNumber.{KeyNumber}
-pub use Rattle.types.specs.declared.addresses.Host.{Host}
-pub use Rattle.types.specs.declared.addresses.Protocol.{Protocol}
-pub use Rattle.types.specs.declared.addresses.Protocol.the-variants.{Plain, Secure}
-pub use Rattle.types.specs.declared.addresses.Fragment.{Fragment}
-pub use Rattle.types.specs.declared.addresses.Fragment.the-variants.{Absent, Named}
-pub use Rattle.types.specs.declared.addresses.Url.{Url}
-pub use Rattle.types.specs.declared.addresses.Origin.{Origin}
+pub use Rattle.types.specs.declared.WindowNumber.{WindowNumber}
+pub use Rattle.types.specs.declared.DocumentNumber.{DocumentNumber}
+pub use Rattle.types.specs.declared.KeyNumber.{KeyNumber}
+pub use Rattle.types.specs.declared.Host.{Host}
+pub use Rattle.types.specs.declared.Protocol.{Protocol}
+pub use Rattle.types.specs.declared.Protocol.the-variants.{Plain, Secure}
+pub use Rattle.types.specs.declared.Fragment.{Fragment}
+pub use Rattle.types.specs.declared.Fragment.the-variants.{Absent, Named}
+pub use Rattle.types.specs.declared.Url.{Url}
+pub use Rattle.types.specs.declared.Origin.{Origin}
 pub use Rattle.types.specs.declared.cookies.CookieName.{CookieName}
 pub use Rattle.types.specs.declared.cookies.Cookie.{Cookie}
 pub use Rattle.types.specs.declared.cookies.Pair.{Pair}
 pub use Rattle.types.specs.declared.cookies.Jar.{Jar}
-pub use Rattle.types.specs.declared.requests.Method.{Method}
-pub use Rattle.types.specs.declared.requests.Method.the-variants.{Get, Head, Post, Put, Delete, Connect, Options, Trace}
-pub use Rattle.types.specs.declared.requests.OriginHeader.{OriginHeader}
-pub use Rattle.types.specs.declared.requests.OriginHeader.the-variants.{Unsent, Null, From}
-pub use Rattle.types.specs.declared.requests.Referrer.{Referrer}
-pub use Rattle.types.specs.declared.requests.Referrer.the-variants.{Unknown, Known}
-pub use Rattle.types.specs.declared.requests.Policy.{Policy}
-pub use Rattle.types.specs.declared.requests.Policy.the-variants.{Unset, NoReferrer, OriginOnly}
-pub use Rattle.types.specs.declared.requests.Matching.{Matching}
-pub use Rattle.types.specs.declared.requests.Matching.the-variants.{Unmatched, By}
-pub use Rattle.types.specs.declared.requests.Reference.{Reference}
-pub use Rattle.types.specs.declared.requests.Reference.the-variants.{Req, Xhr}
-pub use Rattle.types.specs.declared.requests.Request.{Request}
-pub use Rattle.types.specs.declared.requests.Seal.{Seal}
-pub use Rattle.types.specs.declared.requests.Seal.the-variants.{Keyless, Keyed}
+pub use Rattle.types.specs.declared.Method.{Method}
+pub use Rattle.types.specs.declared.Method.the-variants.{Get, Head, Post, Put, Delete, Connect, Options, Trace}
+pub use Rattle.types.specs.declared.OriginHeader.{OriginHeader}
+pub use Rattle.types.specs.declared.OriginHeader.the-variants.{Unsent, Null, From}
+pub use Rattle.types.specs.declared.Referrer.{Referrer}
+pub use Rattle.types.specs.declared.Referrer.the-variants.{Unknown, Known}
+pub use Rattle.types.specs.declared.Policy.{Policy}
+pub use Rattle.types.specs.declared.Policy.the-variants.{Unset, NoReferrer, OriginOnly}
+pub use Rattle.types.specs.declared.Matching.{Matching}
+pub use Rattle.types.specs.declared.Matching.the-variants.{Unmatched, By}
+pub use Rattle.types.specs.declared.Reference.{Reference}
+pub use Rattle.types.specs.declared.Reference.the-variants.{Req, Xhr}
+pub use Rattle.types.specs.declared.Request.{Request}
+pub use Rattle.types.specs.declared.Seal.{Seal}
+pub use Rattle.types.specs.declared.Seal.the-variants.{Keyless, Keyed}
 pub use Rattle.types.specs.declared.commands.Script.{Script}
 pub use Rattle.types.specs.declared.commands.ScriptState.{ScriptState}
 pub use Rattle.types.specs.declared.answers.Body.{Body}

@@ -1,6 +1,6 @@
 -- What the code's labels mean.
-use Rattle.types.specs.declared.labels.Label.{Label as Mark}
-use Rattle.types.specs.declared.labels.Label.the-variants.{OfWindow, OfRequest, OfDns, OfKey, OfDocument}
+use Rattle.types.specs.declared.Label.{Label as Mark}
+use Rattle.types.specs.declared.Label.the-variants.{OfWindow, OfRequest, OfDns, OfKey, OfDocument}
 use Rattle.tables.specs.Labels.{window, request, dns, key, document, Label}
 
 abbrev pub labelOf : Mark → Label

@@ -1,9 +1,9 @@
 // 000 Algorithm 9, lines 37 to 42: the triggers forward and back.
 use history::Towards;
 use shown_in::Shown;
+use types::Fresh;
+use types::WindowNumber;
 use types::browser::Browser;
-use types::labels::Fresh;
-use types::labels::WindowNumber;
 use types::refusals::Performed;
 use types::refusals::Refusal;
 ghost use Rattle.wim.specs.Main.{shownIn, forward, back};

@@ -1,13 +1,13 @@
 // Answers: 000 Definitions 15 (13) and 18.
-use super::addresses::Address;
-use super::addresses::Host;
-use super::addresses::Url;
+use super::Address;
+use super::DnsNumber;
+use super::Host;
+use super::Policy;
+use super::RequestNumber;
+use super::Url;
 use super::commands::Script;
 use super::commands::ScriptState;
 use super::cookies::SetCookies;
-use super::labels::DnsNumber;
-use super::labels::RequestNumber;
-use super::requests::Policy;
 
 pub struct Status(pub u16);
 

@@ -1,10 +1,10 @@
 // What a script commands: 000 A7, lines 19 to 86.
-use super::addresses::Origin;
-use super::addresses::Url;
-use super::labels::WindowNumber;
-use super::requests::Data;
-use super::requests::Matching;
-use super::requests::Method;
+use super::Data;
+use super::Matching;
+use super::Method;
+use super::Origin;
+use super::Url;
+use super::WindowNumber;
 
 pub struct Script(pub u32);
 

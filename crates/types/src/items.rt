@@ -1,14 +1,14 @@
 // Items: an event with its choices, and the fresh numbers (01 "The text").
-use super::addresses::Url;
+use super::Fresh;
+use super::KeyNumber;
+use super::Url;
+use super::WindowNumber;
 use super::answers::Answer;
 use super::answers::DnsAnswer;
 use super::commands::Command;
 use super::commands::ScriptState;
 use super::commands::Target;
 use super::cookies::SetCookies;
-use super::labels::Fresh;
-use super::labels::KeyNumber;
-use super::labels::WindowNumber;
 
 // A value of local or session storage; 0 has no row.
 pub struct Stored(pub u32);

@@ -1,7 +1,7 @@
 // Why a step is refused (01 "Refusal numbers").
+use super::Request;
+use super::Sent;
 use super::browser::Browser;
-use super::requests::Request;
-use super::requests::Sent;
 
 // Which thing isn't there; all are refusal 3.
 pub enum Missing {

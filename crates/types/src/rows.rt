@@ -1,22 +1,22 @@
 // The rows of the nine tables, in 01's order.
-use super::addresses::Address;
-use super::addresses::Host;
-use super::addresses::Origin;
-use super::addresses::Url;
+use super::Address;
+use super::DnsNumber;
+use super::DocumentNumber;
+use super::Host;
+use super::Matching;
+use super::Origin;
+use super::Policy;
+use super::Reference;
+use super::Referrer;
+use super::Request;
+use super::Seal;
+use super::Url;
+use super::WindowNumber;
 use super::answers::Body;
 use super::commands::Script;
 use super::commands::ScriptState;
 use super::cookies::Cookie;
 use super::items::Stored;
-use super::labels::DnsNumber;
-use super::labels::DocumentNumber;
-use super::labels::WindowNumber;
-use super::requests::Matching;
-use super::requests::Policy;
-use super::requests::Reference;
-use super::requests::Referrer;
-use super::requests::Request;
-use super::requests::Seal;
 
 // What a window hangs under.
 pub enum Parent {

@@ -3,15 +3,15 @@ use mathlib.Core.Path.{_≡_, refl, sym, _∙_, ap}
 use mathlib.Core.Bool.{Bool, true, false}
 use mathlib.Core.List.{List, [], _∷_}
 use mathlib.Core.Option.{Option, none, some}
-use Rattle.types.specs.declared.addresses.Url.{Url}
+use Rattle.types.specs.declared.Url.{Url}
 use Rattle.types.specs.declared.commands.Target.the-variants.{NewWindow, Existing}
-use Rattle.types.specs.declared.labels.Fresh.{Fresh}
-use Rattle.types.specs.declared.labels.WindowNumber.{WindowNumber}
+use Rattle.types.specs.declared.Fresh.{Fresh}
+use Rattle.types.specs.declared.WindowNumber.{WindowNumber}
 use Rattle.types.specs.declared.refusals.Missing.the-variants.{NoWindow, NoDocument}
 use Rattle.types.specs.declared.refusals.Refusal.the-variants.{Lacking}
-use Rattle.types.specs.declared.requests.Reference.the-variants.{Req}
-use Rattle.types.specs.declared.requests.Referrer.the-variants.{Unknown}
-use Rattle.types.specs.declared.requests.Sending.{Sending}
+use Rattle.types.specs.declared.Reference.the-variants.{Req}
+use Rattle.types.specs.declared.Referrer.the-variants.{Unknown}
+use Rattle.types.specs.declared.Sending.{Sending}
 use Rattle.types.specs.declared.rows.Document.{Document}
 use Rattle.types.specs.declared.rows.Opener.the-variants.{Nobody}
 use Rattle.types.specs.declared.rows.Window.{Window}

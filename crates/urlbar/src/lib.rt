@@ -1,21 +1,21 @@
 // 000 Algorithm 9, lines 13 to 29: urlbar. An address goes into a new window, or into a top-level window that shows something.
-use types::addresses::Url;
+use types::Fresh;
+use types::Referrer;
+use types::Url;
+use types::Wants;
+use types::WindowNumber;
 use types::browser::Browser;
 use types::commands::Target;
-use types::labels::Fresh;
-use types::labels::Wants;
-use types::labels::WindowNumber;
 use types::refusals::Missing;
 use types::refusals::Performed;
 use types::refusals::Refusal;
-use types::requests::Referrer;
 use types::rows::Opener;
 use types::rows::Parent;
 use types::rows::Window;
 ghost use mathlib.Core.Path.{_≡_};
 ghost use Rattle.types.specs.declared.commands.Target.the-variants.{NewWindow, Existing};
-ghost use Rattle.types.specs.declared.requests.Reference.the-variants.{Req};
-ghost use Rattle.types.specs.declared.requests.Referrer.the-variants.{Unknown};
+ghost use Rattle.types.specs.declared.Reference.the-variants.{Req};
+ghost use Rattle.types.specs.declared.Referrer.the-variants.{Unknown};
 ghost use Rattle.types.specs.declared.rows.Opener.the-variants.{Nobody};
 ghost use Rattle.wim.specs.Main.{sendingTo, urlbar};
 ghost use Rattle.wim.specs.Script.{newTopWindow};

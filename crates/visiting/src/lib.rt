@@ -1,15 +1,15 @@
 // An address that a window is to show, as HTTP_SEND is given it: what urlbar and reload have in common (000 A9:27 to 29, 32 to 36).
-use types::addresses::Url;
-use types::labels::WindowNumber;
-use types::requests::Data;
-use types::requests::Method;
-use types::requests::OriginHeader;
-use types::requests::Policy;
-use types::requests::Reference;
-use types::requests::Referrer;
-use types::requests::Sending;
+use types::Data;
+use types::Method;
+use types::OriginHeader;
+use types::Policy;
+use types::Reference;
+use types::Referrer;
+use types::Sending;
+use types::Url;
+use types::WindowNumber;
 ghost use mathlib.Core.Path.{_≡_};
-ghost use Rattle.types.specs.declared.requests.Reference.the-variants.{Req};
+ghost use Rattle.types.specs.declared.Reference.the-variants.{Req};
 ghost use Rattle.wim.specs.Main.{sendingTo};
 
 pub fn sending_to(w: WindowNumber, url: Url, referrer: Referrer) -> Sending

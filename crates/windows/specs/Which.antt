@@ -2,7 +2,7 @@
 use mathlib.Core.Bool.{Bool, not}
 use lib.ListN.{take}
 use Rattle.sorted.specs.Order.{same}
-use Rattle.types.specs.declared.labels.WindowNumbers.{WindowNumbers}
+use Rattle.types.specs.declared.WindowNumbers.{WindowNumbers}
 use Rattle.tables.specs.Nouns.{Window}
 use Rattle.tables.specs.Tables.{windows, keyOf, cmp}
 use Rattle.tables.specs.Labels.{among, mentions}

@@ -1,9 +1,9 @@
 // The windows, by number. Written by tools/tables.py.
+use types::Label;
+use types::WindowNumber;
+use types::WindowNumbers;
 use types::browser::WINDOWS;
 use types::browser::Windows;
-use types::labels::Label;
-use types::labels::WindowNumber;
-use types::labels::WindowNumbers;
 use types::rows::Opener;
 use types::rows::Parent;
 use types::rows::Window;

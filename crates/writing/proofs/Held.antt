@@ -10,13 +10,13 @@ use denote.Shadow.{shadow}
 use denote.Struct.Field.{Field}
 use Rattle.writing_parts.proofs.Held.{sixty-four}
 use Rattle.csexp_write.proofs.Backs.{Each, each-none, each-more}
-use Rattle.types.proofs.addresses.Fragment as a-fragment
-use Rattle.types.proofs.addresses.Url as a-url
+use Rattle.types.proofs.Fragment as a-fragment
+use Rattle.types.proofs.Url as a-url
 use Rattle.types.proofs.cookies.Pair as a-pair
-use Rattle.types.proofs.requests.OriginHeader as an-origin
-use Rattle.types.proofs.requests.Referrer as a-referrer
-use Rattle.types.proofs.requests.Request as a-request
-use Rattle.types.proofs.requests.Sent as a-sent
+use Rattle.types.proofs.OriginHeader as an-origin
+use Rattle.types.proofs.Referrer as a-referrer
+use Rattle.types.proofs.Request as a-request
+use Rattle.types.proofs.Sent as a-sent
 use Rattle.shapes.specs.Nouns.{Fragment, Absent, Named, Url, Pair, OriginHeader, Unsent, Null, From, Referrer, Unknown, Known, Request, Sent, Silence, Resolve, Open, Sealed}
 use Rattle.shapes.specs.Events.{messageOf, eventText}
 use Rattle.writing.proofs.Bounds.{short-text}

@@ -6,12 +6,12 @@ use csexp_write::labelled;
 use csexp_write::number;
 use csexp_write::open_list;
 use csexp_write::open_word;
-use types::addresses::Address;
-use types::addresses::Host;
-use types::labels::DnsNumber;
-use types::labels::KeyNumber;
-use types::requests::Request;
-use types::requests::Sent;
+use types::Address;
+use types::DnsNumber;
+use types::Host;
+use types::KeyNumber;
+use types::Request;
+use types::Sent;
 ghost use Rattle.csexp_write.specs.Puts.{Puts, Writes};
 ghost use Rattle.shapes.specs.Events.{questionTerm, requestTerm, sealedTerm, eventTerm, eventText, messageOf};
 

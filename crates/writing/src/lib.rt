@@ -3,8 +3,8 @@ mod requests; // methods, requests, requests under a key
 mod events; // questions, and what goes out as a whole
 
 use csexp_write::Written;
-use types::requests::Request;
-use types::requests::Sent;
+use types::Request;
+use types::Sent;
 ghost use Rattle.shapes.specs.Events.{messageOf};
 ghost use Rattle.writing.specs.Wrote.{Wrote, Long};
 

@@ -6,10 +6,10 @@ use csexp_write::open_list;
 use csexp_write::open_word;
 use csexp_write::optional;
 use csexp_write::word;
-use types::addresses::Fragment;
-use types::addresses::Origin;
-use types::addresses::Protocol;
-use types::addresses::Url;
+use types::Fragment;
+use types::Origin;
+use types::Protocol;
+use types::Url;
 ghost use Rattle.csexp_write.specs.Puts.{Writes};
 ghost use Rattle.shapes.specs.Events.{protocolTerm, fragmentTerm, urlTerm, originTerm};
 

@@ -4,7 +4,7 @@ use mathlib.Core.List.{List, [], _∷_}
 use mathlib.Core.Option.{none, some}
 use Rattle.types.specs.declared.answers.Answer.{Answer}
 use Rattle.types.specs.declared.cookies.Cookie.{Cookie}
-use Rattle.types.specs.declared.requests.Matching.{Matching}
+use Rattle.types.specs.declared.Matching.{Matching}
 use Rattle.types.specs.declared.rows.Document.{Document}
 use Rattle.types.specs.declared.rows.Input.{Input}
 use Rattle.types.specs.declared.rows.News.the-variants.{Answered}

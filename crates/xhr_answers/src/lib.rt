@@ -1,12 +1,12 @@
 // 000 A8:46 to 50: the answer to a script's XHR is an input of its document, if that is the active one of a reached window. An XHR is not redirected.
+use types::DocumentNumber;
+use types::Fresh;
+use types::Matching;
 use types::answers::Answer;
 use types::answers::Location;
 use types::browser::Browser;
 use types::cookies::SetCookies;
-use types::labels::DocumentNumber;
-use types::labels::Fresh;
 use types::refusals::Performed;
-use types::requests::Matching;
 use types::rows::Document;
 use types::rows::News;
 use types::rows::Waiting;

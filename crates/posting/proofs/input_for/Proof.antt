@@ -1,7 +1,7 @@
 -- By what the calls ensure.
 use mathlib.Core.Path.{_∙_, ap}
 use lib.ListN.{take}
-use Rattle.types.specs.declared.addresses.Origin.{Origin}
+use Rattle.types.specs.declared.Origin.{Origin}
 use Rattle.types.specs.declared.rows.News.the-variants.{Posted}
 use Rattle.filing.specs.Next.{nextInput}
 use Rattle.posting.proofs.input_for.Statement.{statement}

@@ -1,7 +1,7 @@
 -- For anyone, or for one origin.
 use mathlib.Core.Path.{_∙_, ap}
 use borrow.Author.Needs.{needs}
-use Rattle.types.specs.declared.addresses.Origin.{Origin}
+use Rattle.types.specs.declared.Origin.{Origin}
 use Rattle.tables.specs.Rows.{sameOrigin}
 use Rattle.posting.proofs.is_for.Statement.{statement}
 use Rattle.posting.proofs.is_for.Tie as tie

@@ -1,8 +1,8 @@
 -- By what the calls ensure.
 use mathlib.Core.Path.{_∙_, ap, ap₂}
 use mathlib.Core.Bool.{Bool, cond, _||_}
-use Rattle.types.specs.declared.addresses.Origin.{Origin}
-use Rattle.types.specs.declared.requests.OriginHeader.the-variants.{Null, From}
+use Rattle.types.specs.declared.Origin.{Origin}
+use Rattle.types.specs.declared.OriginHeader.the-variants.{Null, From}
 use Rattle.tables.specs.Rows.{sameOrigin}
 use Rattle.redirecting.proofs.origin_kept.Statement.{statement}
 use Rattle.redirecting.proofs.origin_kept.Tie as tie

@@ -2,7 +2,7 @@
 use mathlib.Core.Path.{refl, sym, _∙_, subst}
 use mathlib.Core.Bool.{false}
 use mathlib.Core.List.{[]}
-use Rattle.types.specs.declared.requests.Cancelled.the-variants.{Bare}
+use Rattle.types.specs.declared.Cancelled.the-variants.{Bare}
 use Rattle.wim.specs.Program.{Outcome}
 use Rattle.wim.specs.Step.{fitted, concluded}
 use Rattle.wim.specs.View.{rowsOf}

@@ -1,7 +1,7 @@
 -- Over P or over S.
 use mathlib.Core.Path.{sym, subst}
 use borrow.Author.Needs.{needs}
-use Rattle.types.specs.declared.addresses.Protocol.{Protocol}
+use Rattle.types.specs.declared.Protocol.{Protocol}
 use Rattle.wim.specs.Main.{goOut}
 use Rattle.performing.specs.Performs.{Performs}
 use Rattle.resolving.proofs.go_out.Statement.{statement}

@@ -1,7 +1,7 @@
 -- Sealed with the key that is brought; or 5.
 use mathlib.Core.Path.{sym, _∙_, subst}
 use mathlib.Core.Bool.{false}
-use Rattle.types.specs.declared.addresses.Protocol.the-variants.{Secure}
+use Rattle.types.specs.declared.Protocol.the-variants.{Secure}
 use Rattle.wim.specs.Program.{Outcome}
 use Rattle.wim.specs.Main.{goOut}
 use Rattle.wim.specs.Step.{fitted, concluded}

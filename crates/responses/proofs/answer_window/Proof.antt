@@ -3,7 +3,7 @@ use mathlib.Core.Path.{sym, _∙_, ap, subst}
 use mathlib.Core.Option.{Option}
 use borrow.Author.Needs.{needs}
 use lib.ListN.{take}
-use Rattle.types.specs.declared.addresses.Url.{Url}
+use Rattle.types.specs.declared.Url.{Url}
 use Rattle.wim.specs.Response.{answerWindow}
 use Rattle.performing.specs.Performs.{Performs}
 use Rattle.xhr_answers.specs.Toward.{toward}

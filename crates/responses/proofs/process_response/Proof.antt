@@ -3,8 +3,8 @@ use mathlib.Core.Path.{sym, subst}
 use mathlib.Core.Option.{Option}
 use borrow.Author.Needs.{needs}
 use lib.ListN.{take}
-use Rattle.types.specs.declared.addresses.Url.{Url}
-use Rattle.types.specs.declared.requests.Reference.{Reference}
+use Rattle.types.specs.declared.Url.{Url}
+use Rattle.types.specs.declared.Reference.{Reference}
 use Rattle.wim.specs.Program.{ask, listening}
 use Rattle.wim.specs.Response.{answerScript, processResponse}
 use Rattle.performing.specs.Performs.{Performs}

@@ -2,7 +2,7 @@
 use mathlib.Core.Path.{refl, subst}
 use mathlib.Core.List.{[], _∷_, map}
 use lib.ListN.{take}
-use Rattle.types.specs.declared.addresses.Origin.{Origin}
+use Rattle.types.specs.declared.Origin.{Origin}
 use Rattle.tables.specs.Tables.{documents, cookies, localStorage, sessionStorage, update, apply}
 use Rattle.tables.specs.Rows.{withState, changing}
 use Rattle.wim.specs.Cookies.{storeAll}

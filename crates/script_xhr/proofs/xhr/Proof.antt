@@ -1,7 +1,7 @@
 -- The method and the origin may stop it; else it is sent.
 use mathlib.Core.Path.{sym, _∙_}
 use Rattle.types.specs.declared.refusals.Refusal.the-variants.{Stopped}
-use Rattle.types.specs.declared.requests.Reference.the-variants.{Xhr}
+use Rattle.types.specs.declared.Reference.the-variants.{Xhr}
 use Rattle.wim.specs.Script.{xhr}
 use Rattle.wim.specs.Step.{freshLabels}
 use Rattle.wim.specs.View.{rowsOf}

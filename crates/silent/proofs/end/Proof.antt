@@ -1,7 +1,7 @@
 -- No number is given, and 6 is left; or 5.
 use mathlib.Core.Path.{sym, _∙_, subst}
 use mathlib.Core.Bool.{false}
-use Rattle.types.specs.declared.labels.Wants.{Wants}
+use Rattle.types.specs.declared.Wants.{Wants}
 use Rattle.wim.specs.Program.{Outcome}
 use Rattle.wim.specs.Step.{fitted, concluded}
 use Rattle.draft.specs.Gives.{Answers}

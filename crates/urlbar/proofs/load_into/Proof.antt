@@ -2,8 +2,8 @@
 use mathlib.Core.Path.{sym, _∙_, subst}
 use mathlib.Core.Bool.{false}
 use mathlib.Core.List.{[]}
-use Rattle.types.specs.declared.requests.Reference.the-variants.{Req}
-use Rattle.types.specs.declared.requests.Referrer.the-variants.{Unknown}
+use Rattle.types.specs.declared.Reference.the-variants.{Req}
+use Rattle.types.specs.declared.Referrer.the-variants.{Unknown}
 use Rattle.wim.specs.Program.{Outcome}
 use Rattle.wim.specs.Sending.{send}
 use Rattle.wim.specs.Main.{sendingTo}

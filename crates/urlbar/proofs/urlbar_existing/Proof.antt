@@ -5,8 +5,8 @@ use mathlib.Core.Option.{none, some}
 use Rattle.types.specs.declared.commands.Target.the-variants.{Existing}
 use Rattle.types.specs.declared.refusals.Missing.the-variants.{NoWindow, NoDocument}
 use Rattle.types.specs.declared.refusals.Refusal.the-variants.{Lacking}
-use Rattle.types.specs.declared.requests.Reference.the-variants.{Req}
-use Rattle.types.specs.declared.requests.Referrer.the-variants.{Unknown}
+use Rattle.types.specs.declared.Reference.the-variants.{Req}
+use Rattle.types.specs.declared.Referrer.the-variants.{Unknown}
 use Rattle.tables.specs.Tables.{documents}
 use Rattle.wim.specs.Walks.{activeDocument}
 use Rattle.wim.specs.Sending.{send}
