@@ -314,7 +314,7 @@ documents.edits = MISCOUNTED | WITHOUT | unclean('        labels::same(l, Label:
     'numbers_counts_none': ('    out.count = i;', '    out.count = 0;'),
     'revise_only_ever_sets_active': ('        Change::SetActive(w, place, a) => set_active(row, w, place, a),',
                                      '        Change::SetActive(w, place, a) => set_active(row, w, place, true),'),
-    'revise_sets_other_windows_active': ('    if sorted::both(row.window.0 == w.0, row.place == place) {', '    if sorted::both(row.window.0 <= w.0, row.place == place) {'),
+    'revise_forgets_the_state': ('        d.state = s;', '        d.state = row.state;'),
     'a_place_is_later_than_itself': ('    place < row.place', '    place <= row.place'),
     'up_to_a_place_without_it': ('    row.place <= place', '    row.place < place'),
 }

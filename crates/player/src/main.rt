@@ -7,7 +7,7 @@ use libc::STDIN_FILENO;
 fn main() {
     let words = os::arg_count();
     if words < 2 {
-        playing::play_all(STDIN_FILENO, true);
+        feeding::play_all(STDIN_FILENO, true);
         return;
     }
     named::play_each(words);

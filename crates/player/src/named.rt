@@ -1,6 +1,6 @@
 // The runs of the files that are named, one after the other. The first word is the program's own name.
+use feeding::play_all;
 use libc::STDOUT_FILENO;
-use playing::play_all;
 
 fn play_file(name: &[u8]) {
     io::write_all(STDOUT_FILENO, name);

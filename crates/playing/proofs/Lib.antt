@@ -1,4 +1,4 @@
--- The laws of lines, of first items, of runs, of the loop that plays a portion, and of moving bytes to the front.
+-- The laws of lines, of first items, of runs and of the loop that plays a portion.
 pub mod Adding
 pub mod Answering
 pub mod Firsts
@@ -6,4 +6,3 @@ pub mod Nexts
 pub mod Running
 pub mod Loop
 pub mod Meaning
-pub mod Moving

@@ -3,4 +3,3 @@ pub mod Lines
 pub mod Turns
 pub mod Portions
 pub mod Plays
-pub mod Keeps

@@ -14,6 +14,6 @@ fn main() {
         io::write_all(STDOUT_FILENO, b"2\n");
         return;
     }
-    let b = playing::play_all(STDIN_FILENO, false);
+    let b = feeding::play_all(STDIN_FILENO, false);
     telling::tell(b, WindowNumber(w));
 }

@@ -2,9 +2,9 @@
 use mathlib.Core.Path.{_≡_, refl, ap, _∙_}
 use Prim.Native.Nat.{_-_}
 use native.Mathlib.Omega.{arith}
-use Rattle.playing.proofs.Moving.{moved, Moves, moves-none, moves-one}
-use Rattle.playing.proofs.window.keep.Statement.{statement}
-use Rattle.playing.proofs.window.keep.Tie as tie
+use Rattle.feeding.proofs.Moving.{moved, Moves, moves-none, moves-one}
+use Rattle.feeding.proofs.window.keep.Statement.{statement}
+use Rattle.feeding.proofs.window.keep.Tie as tie
 
 abbrev Inv-loop : tie.InvT-loop
 Inv-loop window₀ from to n i₀ window i = Moves window₀ from n i window

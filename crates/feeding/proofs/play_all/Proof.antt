@@ -3,8 +3,8 @@ use mathlib.Core.Path.{_≡_}
 use Prim.Native.Nat.{_≤_}
 use native.Mathlib.Omega.{arith}
 use lib.ListN.{length}
-use Rattle.playing.proofs.feeding.play_all.Statement.{statement}
-use Rattle.playing.proofs.feeding.play_all.Tie as tie
+use Rattle.feeding.proofs.play_all.Statement.{statement}
+use Rattle.feeding.proofs.play_all.Tie as tie
 
 abbrev Inv-loop : tie.InvT-loop
 Inv-loop input loud window₀ lines₀ run₀ turns₀ window lines run turns = (65536 ≡ length window) × (65536 ≡ length lines) × (run .held ≤ length window)

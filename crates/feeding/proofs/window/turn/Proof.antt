@@ -4,9 +4,9 @@ use native.Mathlib.Omega.{arith}
 use borrow.Author.Needs.{needs}
 use lib.ListN.{length, take}
 use lib.Seq.{length-take-le}
 use Rattle.playing.proofs.Meaning.{written-within, reasons}
-use Rattle.playing.proofs.window.turn.Statement.{statement}
-use Rattle.playing.proofs.window.turn.Tie as tie
+use Rattle.feeding.proofs.window.turn.Statement.{statement}
+use Rattle.feeding.proofs.window.turn.Tie as tie
 
 slice-aggregate-play : tie.Need-slice-aggregate-play
 slice-aggregate-play c = sym (length-take-le _ _ (c .before .before .before .before .pre))

@@ -1,10 +1,10 @@
 // The window over the input: what was read and is not yet played stands at its front.
 ghost use Prim.Native.Nat.{_-_, _≤_};
 ghost use lib.ListN.{length};
-ghost use Rattle.playing.specs.Keeps.{Keeps};
-use crate::looking::Halt;
-use crate::portions::play;
+ghost use Rattle.feeding.specs.Keeps.{Keeps};
 use libc::STDOUT_FILENO;
+use playing::Halt;
+use playing::play;
 use types::browser::Browser;
 
 // The browser, how many bytes of the window are held, whether the input has ended, and whether the run has.

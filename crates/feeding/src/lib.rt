@@ -1,9 +1,11 @@
 // A run from an input that is open for reading. The input goes through a window of fixed size, so it may be of any length; an item is played as soon as it is
 // whole.
-use crate::window::Run;
-use crate::window::turn;
+mod window; // what was read of an input and is not yet played
+
 use rehearsal::empty;
 use types::browser::Browser;
+use window::Run;
+use window::turn;
 
 // A proved loop has to end, and nothing says that an input does: the turns count down from a number that no run uses up.
 const TURNS: u64 = 18446744073709551615;

@@ -1,0 +1,2 @@
+-- The law of moving bytes to the front.
+pub mod Moving

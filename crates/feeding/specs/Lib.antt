@@ -1,0 +1,2 @@
+-- What is kept of an input.
+pub mod Keeps
