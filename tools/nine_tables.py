@@ -314,7 +314,8 @@ documents.edits = MISCOUNTED | WITHOUT | unclean('        labels::same(l, Label:
     'numbers_counts_none': ('    out.count = i;', '    out.count = 0;'),
     'revise_only_ever_sets_active': ('        Change::SetActive(w, place, a) => set_active(row, w, place, a),',
                                      '        Change::SetActive(w, place, a) => set_active(row, w, place, true),'),
-    'revise_forgets_the_state': ('        d.state = s;', '        d.state = row.state;'),
+    'revise_forgets_the_state': ('        Change::SetState(n, s) => set_state(row, n, s),',
+                                 '        Change::SetState(n, s) => set_state(row, DocumentNumber(0), s),'),
     'a_place_is_later_than_itself': ('    place < row.place', '    place <= row.place'),
     'up_to_a_place_without_it': ('    row.place <= place', '    row.place < place'),
 }
