@@ -1,8 +1,10 @@
 #!/usr/bin/env python3
-"""long_run.py ITEMS: a run of many items, for timing the player.
+"""long_run.py ITEMS | long_run.py deep: runs for timing the programs and for measuring their stacks.
 
-Tabs are opened, loaded, framed, spoken to and closed, over and over, so that rows are freed and used again and no table runs full.
+Of many items: tabs are opened, loaded, framed, spoken to and closed, over and over, so that rows are freed and used again and no table runs full.
+The deep one: window 1 and 31 frames in one another, as many as there may be, windows 2 to 32, each loaded.
 """
+import itertools
 import sys
 
 
@@ -62,15 +64,18 @@ def tab(k):
     yield script(top, [], 9, ["CLOSE", ["window", top]])
 
 
-def main(items):
-    written, k = 0, 0
-    while written < items:
-        for text in tab(k):
-            if written < items:
-                sys.stdout.write(text)
-                written += 1
-        k += 1
+def deep():
+    for k in range(1, 33):
+        numbers = [["window", k], ["request", k], ["dns", k]]
+        yield trigger(["urlbar", "new", "P", 5, 7, [], []], numbers) if k == 1 else script(k - 1, [], 9, ["IFRAME", url(5, 8), "SELF"], numbers)
+        yield resolved(5, k)
+        yield answered(k, [], [1, 0], [["document", k]])
+
+
+def main(kind):
+    many = (text for k in itertools.count() for text in tab(k))
+    sys.stdout.write("".join(deep() if kind == "deep" else itertools.islice(many, int(kind))))
 
 
 if __name__ == "__main__":
-    main(int(sys.argv[1]))
+    main(sys.argv[1])
