@@ -18,13 +18,13 @@ use Rattle.tables.specs.Labels.{Label, window, request, dns, key, document, hos
 use Rattle.tables.specs.Rows.{sameHost, settingActive, oneOf}
 use Rattle.wim.specs.Nouns.{WindowNumber, DocumentNumber, KeyNumber, Host, Address, Protocol, Plain, Secure, Url, Cookie, Matching, Reference, Req, Xhr, Script, ScriptState, Body, Number, Page, Answer, DnsAnswer, EncryptedAnswer, PlainAnswer, DnsResolved, Document, Question, Waiting, Answered, NoQuestion, NoRequest, Mismatch}
 use Rattle.wim.specs.Walks.{documentNumbered, activeAmong, steps, isReached}
-use Rattle.wim.specs.Program.{Program, edit, revise, bring, done, reached, history, listening, arrived, under, question, keyless, keyed, when, listens, answer}
+use Rattle.wim.specs.Program.{Program, edit, revise, bring, done, reached, history, listening, arrived, under, question, keyless, keyed, when, listens, observed}
 use Rattle.wim.specs.Sending.{send}
 use Rattle.wim.specs.History.{placeOf}
 use Rattle.wim.specs.Script.{remove, file}
 use Rattle.wim.specs.Response.{actOnHeaders, whereTo, withFragmentOf, redirection, laterThan, upTo, newDocument, load, arrive, answerWindow, answerScript, answerReached, processResponse}
 use Rattle.wim.specs.Main.{encryptedAnswer, plainAnswer, goOut, resolved, program}
-use Rattle.wim.specs.Local.{asked, awaited, home, topOfDocument, topOf, hosts, urlHost, redirectHost, answerHosts}
+use Rattle.wim.specs.LocalSteps.{asked, awaited, home, topOfDocument, topOf, hosts, urlHost, redirectHost, answerHosts}
 use Rattle.wim.proofs.Walks.{reached-from, reached-top}
 use Rattle.tables.proofs.Update.{linear}
 use Rattle.wim.proofs.Numbers.{found-document}
@@ -43,10 +43,10 @@ module _ (F : Part) (b : Tables) (q : Question) (od : F .own (dns, q .number .0)
   kept-out Secure address = λ k ok. (((orq, (ok, tt), (s, tt)), tt), 1, (omega arith), ((od, tt), 0, (omega arith), four _ refl))
 
 pub kept-resolved : (F : Part) (b : Tables) → Whole F b → (a : DnsAnswer) (new : List Cookie) → Seeds F (DnsResolved a) b → Keeps F nothing (program (DnsResolved a) new) b
-unfolding program resolved home hosts answer
+unfolding program resolved home hosts observed
 kept-resolved F b W a new S = (
   S .sought-sees (dns, a .number .0) (inl refl),
-  kept-needs F nothing b NoQuestion (answer (question (a .number)) b) _ (λ q e.
+  kept-needs F nothing b NoQuestion (observed (question (a .number)) b) _ (λ q e.
       let inb : In q (b pendingDNS) = at-key (keyOf pendingDNS) (cmp pendingDNS) (linear pendingDNS) (a .number .0) (b pendingDNS) q e .0 in
       let od : F .own (dns, q .number .0) ≡ true = S .found-own (dns, q .number .0) (subst (λ (o : Option Question). In (dns, q .number .0) (questionNumber o)) (sym e) (inl refl)) in
       let orq : F .own (request, q .request .number .0) ≡ true = W .owns pendingDNS q inb .0 (request, q .request .number .0) (inl refl) ∙ od in
@@ -55,8 +55,8 @@ kept-resolved F b W a new S = (
 )
 
 -- an XHR's document that listens stands under a top-level window
-listened : (b : Tables) (n : DocumentNumber) (d : Document) → answer (listening n) b ≡ some d → (d .number ≡ n) × ((t : WindowNumber) × (topOf b document (n .0) ≡ some t))
-unfolding answer topOf
+listened : (b : Tables) (n : DocumentNumber) (d : Document) → observed (listening n) b ≡ some d → (d .number ≡ n) × ((t : WindowNumber) × (topOf b document (n .0) ≡ some t))
+unfolding observed topOf
 listened b n d e = go (documentNumbered (b documents) n) refl e
   where
     go : (o : Option Document) → documentNumbered (b documents) n ≡ o → listens (b windows) (b documents) o ≡ some d → (d .number ≡ n) × ((t : WindowNumber) × (topOfDocument b (documentNumbered (b documents) n) ≡ some t))
@@ -88,13 +88,13 @@ module _ (F : Part) (b : Tables) (W : Whole F b) (w : Waiting) (a : Answer) (new
     own-sees F (window, v .0) ov,
     (
       (λ x e. own-sees F (document, x .0) (gone-own x e)),
-      kept-headers F nothing w a new (bring document (λ n. remove (answer (under gone) b) (shows n))) orq oh few
-          (λ c n od. kept-remove F (acting nothing) (answer (under gone) b) (shows n) (under-own F b W gone gone-own) (λ c′. (fixes-active F v (placeOf current) false ov, (((ov, (od, tt), tt), tt), 1, (omega arith), four _ refl))) c) b,
+      kept-headers F nothing w a new (bring document (λ n. remove (observed (under gone) b) (shows n))) orq oh few
+          (λ c n od. kept-remove F (acting nothing) (observed (under gone) b) (shows n) (under-own F b W gone gone-own) (λ c′. (fixes-active F v (placeOf current) false ov, (((ov, (od, tt), tt), tt), 1, (omega arith), four _ refl))) c) b,
     ),
   )
     where
       ds : List Document
-      ds = answer (history v) b
+      ds = observed (history v) b
 
       current : Option Document
       current = activeAmong ds
@@ -118,13 +118,13 @@ module _ (F : Part) (b : Tables) (W : Whole F b) (w : Waiting) (a : Answer) (new
   kept-window v none h ov = kept-arrive v (a .body) ov
   kept-window v (some u) h ov = kept-headers F nothing w a new (send (redirection (withFragmentOf (w .url) u) w a)) orq oh few (kept-send F (acting nothing) (redirection (withFragmentOf (w .url) u) w a) s (h (u .host) (inl refl)) (four _ refl)) b
 
-  kept-script-answer : (n : DocumentNumber) (matching : Matching) (o : Option Url) (d : Option Document) → answer (listening n) b ≡ d → w .reference ≡ Xhr n matching → Keeps F nothing (answerScript w a new matching o d) b
+  kept-script-answer : (n : DocumentNumber) (matching : Matching) (o : Option Url) (d : Option Document) → observed (listening n) b ≡ d → w .reference ≡ Xhr n matching → Keeps F nothing (answerScript w a new matching o d) b
   unfolding answerScript
   kept-script-answer n matching (some u) d e r = headers-only
   kept-script-answer n matching none none e r = headers-only
   kept-script-answer n matching none (some d) e r = (
     own-sees F (document, d .number .0) od,
-    kept-headers F nothing w a new (edit inputs (file (d .number) (answer (arrived (d .number)) b) (Answered matching (a .body))) (done none)) orq oh few
+    kept-headers F nothing w a new (edit inputs (file (d .number) (observed (arrived (d .number)) b) (Answered matching (a .body))) (done none)) orq oh few
         (λ c. (((od, tt, tt), tt), 1, (omega arith), four _ refl)) b,
   )
     where
@@ -138,16 +138,16 @@ module _ (F : Part) (b : Tables) (W : Whole F b) (w : Waiting) (a : Answer) (new
       od = ap (λ (x : DocumentNumber). F .own (document, x .0)) (z .0) ∙ on′
 
   kept-process : (r : Reference) → w .reference ≡ r → Keeps F nothing (processResponse r w a new) b
-  unfolding processResponse answerReached topOf answer
-  kept-process (Req v) e = (ap (λ (r : Reference). sees F (leads r)) (sym e) ∙ s, to (answer (reached v) b) refl)
+  unfolding processResponse answerReached topOf observed
+  kept-process (Req v) e = (ap (λ (r : Reference). sees F (leads r)) (sym e) ∙ s, to (observed (reached v) b) refl)
     where
-      to : (o : Option WindowNumber) → answer (reached v) b ≡ o → Keeps F nothing (answerReached v w a new o) b
+      to : (o : Option WindowNumber) → observed (reached v) b ≡ o → Keeps F nothing (answerReached v w a new o) b
       to none f = headers-only
       to (some top) f = kept-window v (whereTo (a .status) (a .location)) (λ h i. ore h (subst (λ (r : Reference). In h (redirectHost a r)) (sym e) i)) ov
         where
           ov : F .own (window, v .0) ≡ true
           ov = ap (λ (r : Reference). F .own (leads r)) (sym e) ∙ ol top (ap (λ (r : Reference). topOfLabel b (leads r)) e ∙ reached-top (b windows) (b documents) steps v top f)
-  kept-process (Xhr n matching) e = (ap (λ (r : Reference). sees F (leads r)) (sym e) ∙ s, kept-script-answer n matching (whereTo (a .status) (a .location)) (answer (listening n) b) refl e)
+  kept-process (Xhr n matching) e = (ap (λ (r : Reference). sees F (leads r)) (sym e) ∙ s, kept-script-answer n matching (whereTo (a .status) (a .location)) (observed (listening n) b) refl e)
 
 -- whichever way the request is found
 module _ (F : Part) (b : Tables) (W : Whole F b) (a : Answer) (new : List Cookie) (few : length new ≤ 4) (w : Waiting) (o : Option Waiting) (e : o ≡ some w)
@@ -164,14 +164,14 @@ pub kept-encrypted : (F : Part) (b : Tables) → Whole F b → (k : KeyNumber) (
 unfolding program encryptedAnswer home hosts
 kept-encrypted F b W k a new few S = (
   S .sought-sees (key, k .0) (inl refl),
-  kept-needs F nothing b NoRequest (answer (keyed k) b) _ (λ w e.
-      kept-unless F nothing b (eqb (a .number .0) (w .request .number .0)) Mismatch _ (kept-found F b W a new few w (answer (keyed k) b) e (S .found-own) (S .home-sees) (S .home-own) (S .hosts-own))),
+  kept-needs F nothing b NoRequest (observed (keyed k) b) _ (λ w e.
+      kept-unless F nothing b (eqb (a .number .0) (w .request .number .0)) Mismatch _ (kept-found F b W a new few w (observed (keyed k) b) e (S .found-own) (S .home-sees) (S .home-own) (S .hosts-own))),
 )
 
 pub kept-plain : (F : Part) (b : Tables) → Whole F b → (a : Answer) (new : List Cookie) → length new ≤ 4 → Seeds F (PlainAnswer a) b → Keeps F nothing (program (PlainAnswer a) new) b
 unfolding program plainAnswer home hosts
 kept-plain F b W a new few S = (
   S .sought-sees (request, a .number .0) (inl refl),
-  kept-needs F nothing b NoRequest (answer (keyless (a .number)) b) _ (λ w e.
-      kept-found F b W a new few w (answer (keyless (a .number)) b) e (S .found-own) (S .home-sees) (S .home-own) (S .hosts-own)),
+  kept-needs F nothing b NoRequest (observed (keyless (a .number)) b) _ (λ w e.
+      kept-found F b W a new few w (observed (keyless (a .number)) b) e (S .found-own) (S .home-sees) (S .home-own) (S .hosts-own)),
 )

@@ -17,7 +17,7 @@ use Rattle.tables.specs.Labels.{Kind, window, request, dns, key, document, host
 use Rattle.tables.specs.Rows.{sameDocument, hasKey}
 use Rattle.wim.specs.Nouns.{WindowNumber, DocumentNumber, KeyNumber, Host, Window, Document, Question, Waiting, Reference, Req, Xhr, Under, Seal, Keyless, Keyed}
 use Rattle.wim.specs.Walks.{windowNumbered, documentNumbered, aboveDocument, aboveRow, aboveParent, above, climb, topAbove}
-use Rattle.wim.specs.Local.{topOfDocument, topOf}
+use Rattle.wim.specs.LocalSteps.{topOfDocument, topOf}
 use Rattle.wim.specs.Invariant.{Numbered}
 use Rattle.tables.proofs.Update.{linear}
 use Rattle.wim.proofs.Numbers.{document-eq}

@@ -14,7 +14,7 @@ use Rattle.wim.specs.Nouns.{WindowNumber, Host, Cookie, Item}
 use Rattle.wim.specs.Program.{made, run}
 use Rattle.wim.specs.Main.{program}
 use Rattle.wim.specs.Step.{freshLabels}
-use Rattle.wim.specs.Local.{home, topOfHome, stands, hosts}
+use Rattle.wim.specs.LocalSteps.{home, topOfHome, stands, hosts}
 use Rattle.wim.specs.Invariant.{Numbered}
 use Rattle.numbered.proofs.Fresh.{Absent}
 use Rattle.either_order.specs.Statement.{Apart}

@@ -14,11 +14,11 @@ use Rattle.wim.specs.Nouns.{Event, RunScript, Urlbar, Reload, GoForward, GoBack
 use Rattle.wim.specs.Program.{Program, Outcome, refused, made, run}
 use Rattle.wim.specs.Main.{cookiesIn, program}
 use Rattle.wim.specs.Step.{freshLabels, fits, stepTables, Browser, declined, accepted, closes, concluded, step}
-use Rattle.wim.specs.Local.{isLocal, stands, hosts}
-use Rattle.wim.specs.Invariant.{Numbered, Reachable, untouched, stepped}
+use Rattle.wim.specs.LocalSteps.{isLocal, stands, hosts}
+use Rattle.wim.specs.Invariant.{Numbered, MadeTables, untouched, stepped}
 use Rattle.numbered.proofs.Fresh.{fresh-absent}
-use Rattle.numbered.proofs.Steps.{reachable-numbered}
-use Rattle.either_order.specs.Statement.{Made, empty, next, EightFree, Local, Apart, EitherOrder}
+use Rattle.numbered.proofs.Steps.{made-numbered}
+use Rattle.either_order.specs.Statement.{Made, empty, next, EightFree, LocalStep, Apart, EitherOrder}
 use Rattle.either_order.proofs.Part.{Level, Whole}
 use Rattle.either_order.proofs.Commute.{side, commute}
 use Rattle.either_order.proofs.Owned.{level-owned}
@@ -40,12 +40,12 @@ abbrev steps : Item → Program
 steps i = program (i .event) (cookiesIn (i .cookies))
 
 -- what the first brings is fresh after the second
-fresh-after : (b : Tables) → Numbered b → (i j : Item) → Local j → Apart i j b → New i b → (c : Tables) (m : Option Message) → run (steps j) b (freshLabels (j .fresh)) ≡ made c m → New i c
+fresh-after : (b : Tables) → Numbered b → (i j : Item) → LocalStep j → Apart i j b → New i b → (c : Tables) (m : Option Message) → run (steps j) b (freshLabels (j .fresh)) ≡ made c m → New i c
 fresh-after b N i j Lj A Ni c m e l k =
     still-absent b (N .sorted) l (Ni l k) (λ h z. no-host-fresh (i .fresh) h (subst (λ (v : Label). In v (freshLabels (i .fresh))) (sym z) k)) j Lj (λ q. A .new-new l k q) (λ q. A .new-named l k q) c m e
 
 -- THE THEOREM ON TABLES.
-pub either-first : (b : Tables) → Numbered b → EightFree b → (i j : Item) → Local i → Local j → Apart i j b
+pub either-first : (b : Tables) → Numbered b → EightFree b → (i j : Item) → LocalStep i → LocalStep j → Apart i j b
     → (bi bj : Tables) (mi mj : Option Message) → stepTables i b ≡ made bi mi → stepTables j b ≡ made bj mj
     → (c : Tables) × (stepTables j bi ≡ made c mj) × (stepTables i bj ≡ made c mi)
 unfolding stepTables
@@ -107,9 +107,9 @@ local-open (EncryptedAnswer k a) l = refl
 local-open (PlainAnswer a) l = refl
 local-open (DnsResolved a) l = refl
 
-pub made-reachable : {b : Browser} → Made b → Reachable (b .tables)
-made-reachable empty = untouched
-made-reachable (next {b = b} {c = c} i m r e) = stepped i m (made-reachable r) (opened i b c m e .1)
+pub made-tables : {b : Browser} → Made b → MadeTables (b .tables)
+made-tables empty = untouched
+made-tables (next {b = b} {c = c} i m r e) = stepped i m (made-tables r) (opened i b c m e .1)
 
 -- DEMAND 3.
 pub either-order : EitherOrder
@@ -118,6 +118,6 @@ either-order b R free i j Li Lj A bi bj mi mj ei ej =
     let oj = opened j b bj mj ej in
     let ci : closes (i .event) ≡ false = local-open (i .event) (Li .kind) in
     let cj : closes (j .event) ≡ false = local-open (j .event) (Lj .kind) in
-    let z = either-first (b .tables) (reachable-numbered (made-reachable R)) free i j Li Lj A (bi .tables) (bj .tables) mi mj (oi .1) (oj .1) in
+    let z = either-first (b .tables) (made-numbered (made-tables R)) free i j Li Lj A (bi .tables) (bj .tables) mi mj (oi .1) (oj .1) in
     let c : Browser = record { tables = z .0; closed = false } in
     (c, stepped-on j bi c mj (oi .2 ∙ ci) (z .1) (sym cj), stepped-on i bj c mi (oj .2 ∙ cj) (z .2) (sym ci))

@@ -20,7 +20,7 @@ use Rattle.tables.specs.Labels.{Label, code, tag}
 use Rattle.tables.proofs.Update.{update-one, update-two}
 use Rattle.shapes.specs.Events.{Message}
 use Rattle.wim.specs.Nouns.{Refusal, NotFresh}
-use Rattle.wim.specs.Program.{Query, Answer, answer, Program, ask, edit, revise, bring, refuse, done, Outcome, refused, made, run}
+use Rattle.wim.specs.Program.{Query, Observed, observed, Program, ask, edit, revise, bring, refuse, done, Outcome, refused, made, run}
 use Rattle.tables.proofs.Update.{linear}
 use Rattle.numbered.proofs.Fresh.{of-kind}
 use Rattle.either_order.proofs.Sight.{Even, restrict, Sees, sound}
@@ -33,7 +33,7 @@ on u m t = cond (eqb (index u) (index t)) m 0
 -- A PROGRAM KEEPS TO A PART on its way through a browser: it asks for what it may see, changes what it owns, owns the numbers that it
 -- brings, and adds at most four rows to a table (`n`: rows added so far, `m`: by this edit).
 abbrev pub Keeps : Part → (Table → ℕ) → Program → Tables → Type 0
-Keeps F n (ask q k) b = Sees (sees F) q × Keeps F n (k (answer q b)) b
+Keeps F n (ask q k) b = Sees (sees F) q × Keeps F n (k (observed q b)) b
 Keeps F n (edit t es p) b = All (Ok F t) es × (m : ℕ) × (adds es ≤ m) × Keeps F (λ u. n u + on t m u) p (apply t es b)
 Keeps F n (revise t g p) b = Fixes F t g × Keeps F n p (update t (map g) b)
 Keeps F n (bring κ k) b = (x : ℕ) → F .own (κ, x) ≡ true → Keeps F n (k x) b
@@ -57,7 +57,7 @@ module _ (F : Part) where
 
   pub moves : (p : Program) (acc : Table → ℕ) (b : Tables) (f : List Label) (c : Tables) (m : Option Message) → Keeps F acc p b → Owns F f → Whole F b → run p b f ≡ made c m → Goes acc b c
   unfolding run
-  moves (ask q k) acc b f c m h o W e = moves (k (answer q b)) acc b f c m (h .1) o W e
+  moves (ask q k) acc b f c m h o W e = moves (k (observed q b)) acc b f c m (h .1) o W e
   moves (edit t es p) acc b f c m h o W e =
       let v = moved-edit F b W t es (h .0) in
       let z = moves p (λ u. acc u + on t (h .1) u) (apply t es b) f c m (h .3) o (whole-moved F b (apply t es b) W v) e in
@@ -90,8 +90,8 @@ module _ (F : Part) where
   even-sees : (b : Tables) → Whole F b → Even (sees F) b
   even-sees b W t r i a j = ap not (level-even (F .other) b (W .others) t r i a j)
 
-  same-answer : (q : Query) (b d : Tables) → Whole F b → Whole F d → AlikeIn F b d → Sees (sees F) q → answer q b ≡ answer q d
-  same-answer q b d x y e s = sym (sound (sees F) b (even-sees b x) q s) ∙ (ap (answer q) (fun-ext e) ∙ sound (sees F) d (even-sees d y) q s)
+  same-answer : (q : Query) (b d : Tables) → Whole F b → Whole F d → AlikeIn F b d → Sees (sees F) q → observed q b ≡ observed q d
+  same-answer q b d x y e s = sym (sound (sees F) b (even-sees b x) q s) ∙ (ap (observed q) (fun-ext e) ∙ sound (sees F) d (even-sees d y) q s)
 
   alike-edit : (t : Table) (es : Edits t) (b d : Tables) → Whole F b → Whole F d → AlikeIn F b d → AlikeIn F (apply t es b) (apply t es d)
   alike-edit t es b d x y e = update-two (λ u l m. only (keyOf u) (λ k. sees F (tag u k)) l ≡ only (keyOf u) (λ k. sees F (tag u k)) m) t (changed t es) (changed t es) b d e
@@ -116,7 +116,7 @@ module _ (F : Part) where
   pub agree : (p : Program) (acc : Table → ℕ) (b d : Tables) (f : List Label) → Whole F b → Whole F d → AlikeIn F b d → Keeps F acc p b → Owns F f → Alike F (run p b f) (run p d f)
   unfolding run
   agree (ask q k) acc b d f x y e h o =
-      subst (λ (a : Answer q). Alike F (run (k (answer q b)) b f) (run (k a) d f)) (same-answer q b d x y e (h .0)) (agree (k (answer q b)) acc b d f x y e (h .1) o)
+      subst (λ (a : Observed q). Alike F (run (k (observed q b)) b f) (run (k a) d f)) (same-answer q b d x y e (h .0)) (agree (k (observed q b)) acc b d f x y e (h .1) o)
   agree (edit t es p) acc b d f x y e h o = agree p (λ u. acc u + on t (h .1) u) (apply t es b) (apply t es d) f (whole-edit t es b (h .0) x) (whole-edit t es d (h .0) y) (alike-edit t es b d x y e) (h .3) o
   agree (revise t g p) acc b d f x y e h o = agree p acc (update t (map g) b) (update t (map g) d) f (whole-revise t g b (h .0) x) (whole-revise t g d (h .0) y) (alike-revise t g b d (h .0) e) (h .1) o
   agree (bring κ k) acc b d [] x y e h o = both-refused NotFresh
@@ -133,7 +133,7 @@ module _ (F : Part) where
   -- and it keeps to the part in both
   pub keeps-alike : (p : Program) (acc : Table → ℕ) (b d : Tables) → Whole F b → Whole F d → AlikeIn F b d → Keeps F acc p b → Keeps F acc p d
   keeps-alike (ask q k) acc b d x y e h =
-      (h .0, subst (λ (a : Answer q). Keeps F acc (k a) d) (same-answer q b d x y e (h .0)) (keeps-alike (k (answer q b)) acc b d x y e (h .1)))
+      (h .0, subst (λ (a : Observed q). Keeps F acc (k a) d) (same-answer q b d x y e (h .0)) (keeps-alike (k (observed q b)) acc b d x y e (h .1)))
   keeps-alike (edit t es p) acc b d x y e h =
       (h .0, h .1, h .2, keeps-alike p (λ u. acc u + on t (h .1) u) (apply t es b) (apply t es d) (whole-edit t es b (h .0) x) (whole-edit t es d (h .0) y) (alike-edit t es b d x y e) (h .3))
   keeps-alike (revise t g p) acc b d x y e h =

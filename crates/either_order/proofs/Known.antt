@@ -16,8 +16,8 @@ use Rattle.tables.specs.Labels.{Kind, window, request, dns, key, document, host
 use Rattle.tables.specs.Rows.{hasKey, hasNoKey}
 use Rattle.wim.specs.Nouns.{WindowNumber, DocumentNumber, RequestNumber, KeyNumber, Reference, Req, NewWindow, Existing, Event, RunScript, Urlbar, Reload, GoForward, GoBack, CloseCorrupt, EncryptedAnswer, PlainAnswer, DnsResolved, Document, Question, Waiting, DnsNumber}
 use Rattle.wim.specs.Walks.{documentNumbered, Above, missing, topmost, heldBy, above, climb, topAbove}
-use Rattle.wim.specs.Program.{question, keyless, keyed, answer}
-use Rattle.wim.specs.Local.{asked, awaited, home, topOfDocument, topOf, names}
+use Rattle.wim.specs.Program.{question, keyless, keyed, observed}
+use Rattle.wim.specs.LocalSteps.{asked, awaited, home, topOfDocument, topOf, names}
 use Rattle.wim.proofs.Walks.{above-row}
 use Rattle.tables.proofs.Update.{linear}
 use Rattle.numbered.proofs.Fresh.{Absent}
@@ -72,18 +72,18 @@ coloured b key n c h = go (keyedBy (b pendingRequests) (record { 0 = n })) refl 
 coloured b host n c h = refl
 
 -- THE ENTRIES THAT ARE FOUND stand in the tables.
-pub in-questions : (b : Tables) (a : DnsNumber) (q : Question) → answer (question a) b ≡ some q → In q (b pendingDNS)
-unfolding answer
+pub in-questions : (b : Tables) (a : DnsNumber) (q : Question) → observed (question a) b ≡ some q → In q (b pendingDNS)
+unfolding observed
 in-questions b a q e = at-key (keyOf pendingDNS) (cmp pendingDNS) (linear pendingDNS) (a .0) (b pendingDNS) q e .0
 
-pub in-keyless : (b : Tables) (a : RequestNumber) (w : Waiting) → answer (keyless a) b ≡ some w → In w (b pendingRequests) × (w .request .number .0 ≡ a .0)
-unfolding answer
+pub in-keyless : (b : Tables) (a : RequestNumber) (w : Waiting) → observed (keyless a) b ≡ some w → In w (b pendingRequests) × (w .request .number .0 ≡ a .0)
+unfolding observed
 in-keyless b a w e =
     let z = find-in (λ (r : Waiting). eqb (r .request .number .0) (a .0) && hasNoKey (r .seal)) (b pendingRequests) w e in
     (z .0, eqb-true (w .request .number .0) (a .0) (and-left (eqb (w .request .number .0) (a .0)) (hasNoKey (w .seal)) (z .1)))
 
-pub in-keyed : (b : Tables) (k : KeyNumber) (w : Waiting) → answer (keyed k) b ≡ some w → In w (b pendingRequests)
-unfolding answer
+pub in-keyed : (b : Tables) (k : KeyNumber) (w : Waiting) → observed (keyed k) b ≡ some w → In w (b pendingRequests)
+unfolding observed
 in-keyed b k w e = find-in (λ (r : Waiting). hasKey k (r .seal)) (b pendingRequests) w e .0
 
 module _ (b : Tables) (l : Label) (ab : Absent l b) where
@@ -105,9 +105,9 @@ module _ (b : Tables) (l : Label) (ab : Absent l b) where
   home-named (GoForward w) h = let z : (window, w .0) ≡ l = cc in inl (sym z)
   home-named (GoBack w) h = let z : (window, w .0) ≡ l = cc in inl (sym z)
   home-named CloseCorrupt h = never (cc)
-  home-named (EncryptedAnswer k a) h = absurd (home-waiting (answer (keyed k) b) (in-keyed b k) h)
-  home-named (PlainAnswer a) h = absurd (home-waiting (answer (keyless (a .number)) b) (λ w e. in-keyless b (a .number) w e .0) h)
-  home-named (DnsResolved a) h = absurd (home-question (answer (question (a .number)) b) (in-questions b (a .number)) h)
+  home-named (EncryptedAnswer k a) h = absurd (home-waiting (observed (keyed k) b) (in-keyed b k) h)
+  home-named (PlainAnswer a) h = absurd (home-waiting (observed (keyless (a .number)) b) (λ w e. in-keyless b (a .number) w e .0) h)
+  home-named (DnsResolved a) h = absurd (home-question (observed (question (a .number)) b) (in-questions b (a .number)) h)
 
   found-waiting : (o : Option Waiting) → ((w : Waiting) → o ≡ some w → In w (b pendingRequests)) → In l (waitingNumber o) → ⊥
   found-waiting (some w) h (inl e) = ab .nowhere pendingRequests w (h w refl) (inl e)
@@ -123,9 +123,9 @@ module _ (b : Tables) (l : Label) (ab : Absent l b) where
   found-stands (GoForward w) i = i
   found-stands (GoBack w) i = i
   found-stands CloseCorrupt i = i
-  found-stands (EncryptedAnswer k a) i = found-waiting (answer (keyed k) b) (in-keyed b k) i
-  found-stands (PlainAnswer a) i = found-waiting (answer (keyless (a .number)) b) (λ w e. in-keyless b (a .number) w e .0) i
-  found-stands (DnsResolved a) i = found-question (answer (question (a .number)) b) (in-questions b (a .number)) i
+  found-stands (EncryptedAnswer k a) i = found-waiting (observed (keyed k) b) (in-keyed b k) i
+  found-stands (PlainAnswer a) i = found-waiting (observed (keyless (a .number)) b) (λ w e. in-keyless b (a .number) w e .0) i
+  found-stands (DnsResolved a) i = found-question (observed (question (a .number)) b) (in-questions b (a .number)) i
 
 -- a number under which an entry is sought is named
 pub sought-named : (e : Event) (l : Label) → In l (sought e) → In l (names e)
@@ -162,6 +162,6 @@ module _ (b : Tables) (l : Label) where
   home-colour (GoForward w) h = led-colour (Req w) (cc)
   home-colour (GoBack w) h = led-colour (Req w) (cc)
   home-colour CloseCorrupt h = never (cc)
-  home-colour (EncryptedAnswer k a) h = awaited-colour (answer (keyed k) b) h
-  home-colour (PlainAnswer a) h = awaited-colour (answer (keyless (a .number)) b) h
-  home-colour (DnsResolved a) h = asked-colour (answer (question (a .number)) b) h
+  home-colour (EncryptedAnswer k a) h = awaited-colour (observed (keyed k) b) h
+  home-colour (PlainAnswer a) h = awaited-colour (observed (keyless (a .number)) b) h
+  home-colour (DnsResolved a) h = asked-colour (observed (question (a .number)) b) h

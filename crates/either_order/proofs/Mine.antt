@@ -11,9 +11,9 @@ use Rattle.tables.specs.Tables.{pendingDNS, pendingRequests, Tables}
 use Rattle.tables.specs.Labels.{Label, request, dns, host, leads}
 use Rattle.shapes.specs.Events.{Message}
 use Rattle.wim.specs.Nouns.{WindowNumber, Host, Cookie, Reference, Event, RunScript, Urlbar, Reload, GoForward, GoBack, CloseCorrupt, EncryptedAnswer, PlainAnswer, DnsResolved, Answer, Question, Waiting}
-use Rattle.wim.specs.Program.{question, keyless, keyed, answer, made, run}
+use Rattle.wim.specs.Program.{question, keyless, keyed, observed, made, run}
 use Rattle.wim.specs.Main.{program, plainAnswer}
-use Rattle.wim.specs.Local.{asked, awaited, home, topOfHome, stands, hosts, questionHost, answerHosts}
+use Rattle.wim.specs.LocalSteps.{asked, awaited, home, topOfHome, stands, hosts, questionHost, answerHosts}
 use Rattle.wim.specs.Invariant.{Numbered}
 use Rattle.either_order.proofs.Listed.{in-hosts}
 use Rattle.either_order.proofs.Colour.{colourless, orHost, topOfLabel, entry, colour, waitingColour, questionColour, colour-dns, colour-waiting}
@@ -55,48 +55,48 @@ module _ (b : Tables) (N : Numbered b) where
   found-mine (GoForward w) l i = absurd i
   found-mine (GoBack w) l i = absurd i
   found-mine CloseCorrupt l i = absurd i
-  found-mine (EncryptedAnswer k a) l i = go (answer (keyed k) b) refl i
+  found-mine (EncryptedAnswer k a) l i = go (observed (keyed k) b) refl i
     where
-      go : (o : Option Waiting) → answer (keyed k) b ≡ o → In l (waitingNumber o) → oursAt b (stands (EncryptedAnswer k a) b) (hosts (EncryptedAnswer k a) b) l ≡ true
+      go : (o : Option Waiting) → observed (keyed k) b ≡ o → In l (waitingNumber o) → oursAt b (stands (EncryptedAnswer k a) b) (hosts (EncryptedAnswer k a) b) l ≡ true
       go none f j = absurd j
-      go (some w) f (inl j) = of-waiting (EncryptedAnswer k a) a (answer (keyed k) b) w l f (in-keyed b k w f) j refl refl
-  found-mine (PlainAnswer a) l i = go (answer (keyless (a .number)) b) refl i
+      go (some w) f (inl j) = of-waiting (EncryptedAnswer k a) a (observed (keyed k) b) w l f (in-keyed b k w f) j refl refl
+  found-mine (PlainAnswer a) l i = go (observed (keyless (a .number)) b) refl i
     where
-      go : (o : Option Waiting) → answer (keyless (a .number)) b ≡ o → In l (waitingNumber o) → oursAt b (stands (PlainAnswer a) b) (hosts (PlainAnswer a) b) l ≡ true
+      go : (o : Option Waiting) → observed (keyless (a .number)) b ≡ o → In l (waitingNumber o) → oursAt b (stands (PlainAnswer a) b) (hosts (PlainAnswer a) b) l ≡ true
       go none f j = absurd j
-      go (some w) f (inl j) = of-waiting (PlainAnswer a) a (answer (keyless (a .number)) b) w l f (in-keyless b (a .number) w f .0) j refl refl
-  found-mine (DnsResolved a) l i = go (answer (question (a .number)) b) refl i
+      go (some w) f (inl j) = of-waiting (PlainAnswer a) a (observed (keyless (a .number)) b) w l f (in-keyless b (a .number) w f .0) j refl refl
+  found-mine (DnsResolved a) l i = go (observed (question (a .number)) b) refl i
     where
-      go : (o : Option Question) → answer (question (a .number)) b ≡ o → In l (questionNumber o) → oursAt b (stands (DnsResolved a) b) (hosts (DnsResolved a) b) l ≡ true
+      go : (o : Option Question) → observed (question (a .number)) b ≡ o → In l (questionNumber o) → oursAt b (stands (DnsResolved a) b) (hosts (DnsResolved a) b) l ≡ true
       go none f j = absurd j
-      go (some q) f (inl j) = of-question (DnsResolved a) (answer (question (a .number)) b) q l f (in-questions b (a .number) q f) j refl refl
+      go (some q) f (inl j) = of-question (DnsResolved a) (observed (question (a .number)) b) q l f (in-questions b (a .number) q f) j refl refl
 
   -- the number under which an accepted step seeks an entry
   pub sought-mine : (e : Event) (new : List Cookie) (f : List Label) (c : Tables) (m : Option Message) → run (program e new) b f ≡ made c m → (l : Label) → In l (sought e) → Mine e b l
-  unfolding stands home hosts colour answer run program plainAnswer
+  unfolding stands home hosts colour observed run program plainAnswer
   sought-mine (RunScript w out) new f c m acc l i = absurd i
   sought-mine (Urlbar target url) new f c m acc l i = absurd i
   sought-mine (Reload w) new f c m acc l i = absurd i
   sought-mine (GoForward w) new f c m acc l i = absurd i
   sought-mine (GoBack w) new f c m acc l i = absurd i
   sought-mine CloseCorrupt new f c m acc l i = absurd i
-  sought-mine (EncryptedAnswer k a) new f c m acc l (inl i) = go (answer (keyed k) b) refl
+  sought-mine (EncryptedAnswer k a) new f c m acc l (inl i) = go (observed (keyed k) b) refl
     where
-      go : (o : Option Waiting) → answer (keyed k) b ≡ o → Mine (EncryptedAnswer k a) b l
+      go : (o : Option Waiting) → observed (keyed k) b ≡ o → Mine (EncryptedAnswer k a) b l
       go none g = inl (ap (λ (v : Label). colour b (v .0) (v .1)) i ∙ ap (waitingColour b) g)
       go (some w) g =
           inr (of-entry (EncryptedAnswer k a) l (w .reference) (w .request .host) (ap (λ (v : Label). colour b (v .0) (v .1)) i ∙ ap (waitingColour b) g)
           (ap (λ (x : Option Waiting). topOfHome b (awaited x)) g) (subst (In (w .request .host)) (sym (ap (answerHosts a) g)) (inl refl)))
-  sought-mine (PlainAnswer a) new f c m acc l (inl i) = go (answer (keyless (a .number)) b) refl acc
+  sought-mine (PlainAnswer a) new f c m acc l (inl i) = go (observed (keyless (a .number)) b) refl acc
     where
-      go : (o : Option Waiting) → answer (keyless (a .number)) b ≡ o → run (plainAnswer a new o) b f ≡ made c m → Mine (PlainAnswer a) b l
+      go : (o : Option Waiting) → observed (keyless (a .number)) b ≡ o → run (plainAnswer a new o) b f ≡ made c m → Mine (PlainAnswer a) b l
       go none g h = never (cc)
       go (some w) g h =
           let z = in-keyless b (a .number) w g in
-          inr (of-waiting (PlainAnswer a) a (answer (keyless (a .number)) b) w l g (z .0) (i ∙ ap (λ (n : ℕ). (request, n)) (sym (z .1))) refl refl)
-  sought-mine (DnsResolved a) new f c m acc l (inl i) = go (answer (question (a .number)) b) refl
+          inr (of-waiting (PlainAnswer a) a (observed (keyless (a .number)) b) w l g (z .0) (i ∙ ap (λ (n : ℕ). (request, n)) (sym (z .1))) refl refl)
+  sought-mine (DnsResolved a) new f c m acc l (inl i) = go (observed (question (a .number)) b) refl
     where
-      go : (o : Option Question) → answer (question (a .number)) b ≡ o → Mine (DnsResolved a) b l
+      go : (o : Option Question) → observed (question (a .number)) b ≡ o → Mine (DnsResolved a) b l
       go none g = inl (ap (λ (v : Label). colour b (v .0) (v .1)) i ∙ ap (questionColour b) g)
       go (some q) g =
           inr (of-entry (DnsResolved a) l (q .reference) (q .request .host) (ap (λ (v : Label). colour b (v .0) (v .1)) i ∙ ap (questionColour b) g)

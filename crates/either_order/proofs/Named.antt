@@ -18,12 +18,12 @@ use Rattle.tables.specs.Rows.{hasKey}
 use Rattle.shapes.specs.Events.{Message}
 use Rattle.wim.specs.Nouns.{WindowNumber, DnsNumber, KeyNumber, Host, Cookie, NewWindow, Existing, Itself, Within, Command, Nothing, Href, Iframe, Form, SetScript, SetScriptState, XmlHttpRequest, Back, Forward, Close, PostMessage, Event, RunScript, Urlbar, Reload, GoForward, GoBack, CloseCorrupt, EncryptedAnswer, PlainAnswer, DnsResolved, Item, Window, Question, Waiting, Missing, Mismatch}
 use Rattle.wim.specs.Walks.{windowNumbered, steps}
-use Rattle.wim.specs.Program.{Program, reached, topLevel, question, keyless, keyed, answer, isTop, needs, refuseUnless, made, run}
+use Rattle.wim.specs.Program.{Program, reached, topLevel, question, keyless, keyed, observed, isTop, needs, refuseUnless, made, run}
 use Rattle.wim.specs.Script.{runScript}
 use Rattle.wim.specs.Response.{processResponse}
 use Rattle.wim.specs.Main.{urlbar, reload, forward, back, encryptedAnswer, plainAnswer, resolved, cookiesIn, program}
 use Rattle.wim.specs.Step.{freshLabels, stepTables}
-use Rattle.wim.specs.Local.{localCommand, isLocal, stands, hosts, commandNames, names}
+use Rattle.wim.specs.LocalSteps.{localCommand, isLocal, stands, hosts, commandNames, names}
 use Rattle.wim.proofs.Numbers.{same-window, row-numbered}
 use Rattle.wim.proofs.Walks.{reached-row}
 use Rattle.tables.proofs.Update.{linear}
@@ -50,26 +50,26 @@ module _ (b : Tables) (l : Label) (ab : Absent l b) where
   no-row : (w : WindowNumber) (r : Window) → In r (b windows) → r .number ≡ w → l ≡ (window, w .0) → ⊥
   no-row w r i e k = ab .nowhere windows r i (inl (k ∙ ap (λ (v : WindowNumber). (window, v .0)) (sym e)))
 
-  not-reached : (w top : WindowNumber) → answer (reached w) b ≡ some top → l ≡ (window, w .0) → ⊥
-  unfolding answer
+  not-reached : (w top : WindowNumber) → observed (reached w) b ≡ some top → l ≡ (window, w .0) → ⊥
+  unfolding observed
   not-reached w top e k = let z = reached-row (b windows) (b documents) steps w top e in no-row w (z .0) (z .1) (z .2) k
 
-  not-top : (w : WindowNumber) → answer (topLevel w) b ≡ true → l ≡ (window, w .0) → ⊥
-  unfolding answer
+  not-top : (w : WindowNumber) → observed (topLevel w) b ≡ true → l ≡ (window, w .0) → ⊥
+  unfolding observed
   not-top w e k = go (windowNumbered (b windows) w) refl e
     where
       go : (o : Option Window) → windowNumbered (b windows) w ≡ o → isTop o ≡ true → ⊥
       go none f h = never (cc)
       go (some r) f h = let z = row-numbered (b windows) w r f in no-row w r (z .0) (z .1) k
 
-  not-key : (k : KeyNumber) (w : Waiting) → answer (keyed k) b ≡ some w → l ≡ (key, k .0) → ⊥
-  unfolding answer
+  not-key : (k : KeyNumber) (w : Waiting) → observed (keyed k) b ≡ some w → l ≡ (key, k .0) → ⊥
+  unfolding observed
   not-key k w e h =
       let z = find-in (λ (r : Waiting). hasKey k (r .seal)) (b pendingRequests) w e in
       ab .nowhere pendingRequests w (z .0) (tie-mentioned pendingRequests w l (subst (λ (v : Label). In v (ties pendingRequests w)) (sym h) (has-key k (w .seal) (z .1))))
 
-  not-asked : (n : DnsNumber) (q : Question) → answer (question n) b ≡ some q → l ≡ (dns, n .0) → ⊥
-  unfolding answer
+  not-asked : (n : DnsNumber) (q : Question) → observed (question n) b ≡ some q → l ≡ (dns, n .0) → ⊥
+  unfolding observed
   not-asked n q e h =
       let z = at-key (keyOf pendingDNS) (cmp pendingDNS) (linear pendingDNS) (n .0) (b pendingDNS) q e in
       ab .nowhere pendingDNS q (z .0) (inl (h ∙ ap (λ (k : ℕ). (dns, k)) (z .1)))
@@ -95,30 +95,30 @@ own-named w (PostMessage x message to) e l i = never (cc)
 pub named-stands : (e : Event) (new : List Cookie) (b : Tables) (f : List Label) (c : Tables) (m : Option Message) → isLocal e ≡ true → run (program e new) b f ≡ made c m
     → (l : Label) → In l (names e) → Absent l b → ⊥
 unfolding isLocal names program run runScript urlbar reload forward back encryptedAnswer plainAnswer resolved
-named-stands (RunScript w out) new b f c m lc acc l i ab = let z = found-some b f c m _ (answer (reached w) b) _ acc in go i (not-reached b l ab w (z .0) (z .1))
+named-stands (RunScript w out) new b f c m lc acc l i ab = let z = found-some b f c m _ (observed (reached w) b) _ acc in go i (not-reached b l ab w (z .0) (z .1))
   where
     go : In l ((window, w .0) ∷ commandNames (out .command)) → (l ≡ (window, w .0) → ⊥) → ⊥
     go (inl k) h = h k
     go (inr j) h = h (own-named w (out .command) lc l j)
 named-stands (Urlbar NewWindow url) new b f c m lc acc l i ab = i
-named-stands (Urlbar (Existing w) url) new b f c m lc acc l (inl k) ab = not-top b l ab w (passed b f c m (answer (topLevel w) b) _ _ acc) k
-named-stands (Reload w) new b f c m lc acc l (inl k) ab = let z = found-some b f c m _ (answer (reached w) b) _ acc in not-reached b l ab w (z .0) (z .1) k
-named-stands (GoForward w) new b f c m lc acc l (inl k) ab = let z = found-some b f c m _ (answer (reached w) b) _ acc in not-reached b l ab w (z .0) (z .1) k
-named-stands (GoBack w) new b f c m lc acc l (inl k) ab = let z = found-some b f c m _ (answer (reached w) b) _ acc in not-reached b l ab w (z .0) (z .1) k
+named-stands (Urlbar (Existing w) url) new b f c m lc acc l (inl k) ab = not-top b l ab w (passed b f c m (observed (topLevel w) b) _ _ acc) k
+named-stands (Reload w) new b f c m lc acc l (inl k) ab = let z = found-some b f c m _ (observed (reached w) b) _ acc in not-reached b l ab w (z .0) (z .1) k
+named-stands (GoForward w) new b f c m lc acc l (inl k) ab = let z = found-some b f c m _ (observed (reached w) b) _ acc in not-reached b l ab w (z .0) (z .1) k
+named-stands (GoBack w) new b f c m lc acc l (inl k) ab = let z = found-some b f c m _ (observed (reached w) b) _ acc in not-reached b l ab w (z .0) (z .1) k
 named-stands CloseCorrupt new b f c m lc acc l i ab = i
 named-stands (EncryptedAnswer k a) new b f c m lc acc l i ab = go i
   where
-    z : (w : Waiting) × (answer (keyed k) b ≡ some w) × (run (refuseUnless (eqb (a .number .0) (w .request .number .0)) Mismatch (processResponse (w .reference) w a new)) b f ≡ made c m)
-    z = found-some b f c m _ (answer (keyed k) b) _ acc
+    z : (w : Waiting) × (observed (keyed k) b ≡ some w) × (run (refuseUnless (eqb (a .number .0) (w .request .number .0)) Mismatch (processResponse (w .reference) w a new)) b f ≡ made c m)
+    z = found-some b f c m _ (observed (keyed k) b) _ acc
 
     go : In l ((key, k .0) ∷ ((request, a .number .0) ∷ [])) → ⊥
     go (inl h) = not-key b l ab k (z .0) (z .1) h
     go (inr (inl h)) = ab .nowhere pendingRequests (z .0) (in-keyed b k (z .0) (z .1)) (inl (h ∙ ap (λ (n : ℕ). (request, n)) (eqb-true (a .number .0) (z .0 .request .number .0) (passed b f c m _ _ _ (z .2)))))
 named-stands (PlainAnswer a) new b f c m lc acc l (inl h) ab =
-    let z = found-some b f c m _ (answer (keyless (a .number)) b) _ acc in
+    let z = found-some b f c m _ (observed (keyless (a .number)) b) _ acc in
     let y = in-keyless b (a .number) (z .0) (z .1) in
     ab .nowhere pendingRequests (z .0) (y .0) (inl (h ∙ ap (λ (n : ℕ). (request, n)) (sym (y .1))))
-named-stands (DnsResolved a) new b f c m lc acc l (inl h) ab = let z = found-some b f c m _ (answer (question (a .number)) b) _ acc in not-asked b l ab (a .number) (z .0) (z .1) h
+named-stands (DnsResolved a) new b f c m lc acc l (inl h) ab = let z = found-some b f c m _ (observed (question (a .number)) b) _ acc in not-asked b l ab (a .number) (z .0) (z .1) h
 
 -- THE PREMISES THAT ARE LEFT: tops, hosts, and numbers that both bring.
 pub apart-when-accepted : (i j : Item) (b : Tables) → isLocal (i .event) ≡ true → isLocal (j .event) ≡ true

@@ -12,7 +12,7 @@ use Rattle.shapes.specs.Texts.{item, itemIn}
 use Rattle.shapes.specs.Events.{Message, eventOf}
 use Rattle.wim.specs.Nouns.{Item, NoRoom, Accepted}
 use Rattle.wim.specs.Step.{Browser, Result, declined, accepted, step}
-use Rattle.wim.specs.Wire.{Reply, refusing, putInto, sending, replying, rehearsing, rehearse}
+use Rattle.wim.specs.Wire.{Returned, refusing, putInto, sending, returning, rehearsing, rehearse}
 use Rattle.either_order.specs.Statement.{SameLine, EitherOrderOnTexts}
 use Rattle.either_order.proofs.EitherOrder.{either-order}
 use Rattle.either_order.proofs.FewCookies.{few-read}
@@ -26,7 +26,7 @@ written (some m) b c out place h d e = go (leb (place + length bs) (length out))
     bs : List ℕ
     bs = write (eventOf m)
 
-    given : Browser → Browser → Bool → Reply
+    given : Browser → Browser → Bool → Returned
     given b c x = cond x (record { verdict = Accepted; browser = c; count = length bs; buffer = putInto out place bs }) (refusing NoRoom b out)
 
     go : (x : Bool) → given b c x .verdict ≡ Accepted → SameLine (given d e x) (given b c x) × (given d e x .browser ≡ e)
@@ -35,24 +35,24 @@ written (some m) b c out place h d e = go (leb (place + length bs) (length out))
 
 -- an accepted text is an accepted item, whose reply is its event written
 module _ (s : List ℕ) (i : Item) (r : itemIn s ≡ item i) (b : Browser) (out : List ℕ) (place : ℕ) where
-  replied : rehearse s b out place ≡ replying (step i b) b out place
+  replied : rehearse s b out place ≡ returning (step i b) b out place
   unfolding rehearse
   replied = ap (λ t. rehearsing t b out place) r
 
   taken : rehearse s b out place .verdict ≡ Accepted → (c : Browser) × (m : Option Message) × (step i b ≡ accepted c m) × (rehearse s b out place ≡ sending m b c out place)
-  taken h = go (step i b) refl (ap (λ (x : Reply). x .verdict) (sym replied) ∙ h)
+  taken h = go (step i b) refl (ap (λ (x : Returned). x .verdict) (sym replied) ∙ h)
     where
-      go : (o : Result) → step i b ≡ o → replying o b out place .verdict ≡ Accepted → (c : Browser) × (m : Option Message) × (step i b ≡ accepted c m) × (rehearse s b out place ≡ sending m b c out place)
+      go : (o : Result) → step i b ≡ o → returning o b out place .verdict ≡ Accepted → (c : Browser) × (m : Option Message) × (step i b ≡ accepted c m) × (rehearse s b out place ≡ sending m b c out place)
       go (declined x) e v = never (cc)
-      go (accepted c m) e v = (c, m, e, replied ∙ ap (λ (o : Result). replying o b out place) e)
+      go (accepted c m) e v = (c, m, e, replied ∙ ap (λ (o : Result). returning o b out place) e)
 
 -- what an accepted text writes it writes again in another browser where its item sends the same
 again : (s : List ℕ) (i : Item) → itemIn s ≡ item i → (b c d e : Browser) (m : Option Message) (out : List ℕ) (place : ℕ) → rehearse s b out place ≡ sending m b c out place → rehearse s b out place .verdict ≡ Accepted
     → step i d ≡ accepted e m → SameLine (rehearse s d out place) (rehearse s b out place) × (rehearse s d out place .browser ≡ e)
 again s i r b c d e m out place p v q =
-    let z = written m b c out place (ap (λ (x : Reply). x .verdict) (sym p) ∙ v) d e in
-    let w : rehearse s d out place ≡ sending m d e out place = replied s i r d out place ∙ ap (λ (o : Result). replying o d out place) q in
-    (subst (λ (x : Reply). SameLine x (rehearse s b out place)) (sym w) (subst (SameLine (sending m d e out place)) (sym p) (z .0)), ap (λ (x : Reply). x .browser) w ∙ z .1)
+    let z = written m b c out place (ap (λ (x : Returned). x .verdict) (sym p) ∙ v) d e in
+    let w : rehearse s d out place ≡ sending m d e out place = replied s i r d out place ∙ ap (λ (o : Result). returning o d out place) q in
+    (subst (λ (x : Returned). SameLine x (rehearse s b out place)) (sym w) (subst (SameLine (sending m d e out place)) (sym p) (z .0)), ap (λ (x : Returned). x .browser) w ∙ z .1)
 
 pub either-order-on-texts : EitherOrderOnTexts
 either-order-on-texts b R free s u i j ri rj li lj A out lent place from vs vu =

@@ -16,10 +16,10 @@ use Rattle.wim.specs.Nouns.{WindowNumber, Url, Host, Cookie, Method, Data, Matc
 use Rattle.wim.specs.Walks.{activeDocument, hasOrigin, isReached, steps}
 use Rattle.wim.specs.Navigable.{mayNavigate}
 use Rattle.wim.specs.Cookies.{cookieMerge}
-use Rattle.wim.specs.Program.{Program, reached, active, navigated, ofOrigin, cookiesOf, when, withOrigin, answer}
+use Rattle.wim.specs.Program.{Program, reached, active, navigated, ofOrigin, cookiesOf, when, withOrigin, observed}
 use Rattle.wim.specs.Sending.{cancelNav, send}
 use Rattle.wim.specs.Script.{openerUnless, otherwise, href, iframeIn, iframe, isFormMethod, isGet, formSending, form, isForbidden, isGetOrHead, urlOrigin, xhrSending, xhr, command, runScript, store, sendingFrom, noData}
-use Rattle.wim.specs.Local.{newOrOwn, ownTarget, ownHolder, localCommand, commandHosts, home, hosts, documentHost}
+use Rattle.wim.specs.LocalSteps.{newOrOwn, ownTarget, ownHolder, localCommand, commandHosts, home, hosts, documentHost}
 use Rattle.wim.proofs.Numbers.{same-window}
 use Rattle.either_order.proofs.Sight.{itself, reached-even}
 use Rattle.either_order.proofs.Part.{Part, sees, own-sees, level-even, Whole}
@@ -79,8 +79,8 @@ found-active d true (some x) e h = go (hasOrigin (originOf d) (some x)) h
 module _ (F : Part) (b : Tables) (W : Whole F b) (w : WindowNumber) (d : Document) (first : Program → Program)
     (ow : F .own (window, w .0) ≡ true) (od : F .own (document, d .number .0) ≡ true) (L : Leads F first) where
   -- the window that a local command asks for is the script's own
-  navigated-own : (x : WindowNumber) → sameWindow x w ≡ true → F .own (window, answer (navigated w d x) b .0) ≡ true
-  unfolding answer
+  navigated-own : (x : WindowNumber) → sameWindow x w ≡ true → F .own (window, observed (navigated w d x) b .0) ≡ true
+  unfolding observed
   navigated-own x e = ap (λ (v : WindowNumber). F .own (window, v .0)) (itself (mayNavigate (b windows) (b documents) (originOf d) w x) w x (same-window x w e)) ∙ ow
 
   opener-sees : (noreferrer : Bool) → All (λ a. sees F a ≡ true) (openerLabel (openerUnless noreferrer w))
@@ -92,21 +92,21 @@ module _ (F : Part) (b : Tables) (W : Whole F b) (w : WindowNumber) (d : Documen
   kept-href url noreferrer NewWindow e oh =
       L _ (λ c v ov. (((ov, tt, opener-sees noreferrer), tt), 1, (omega arith), kept-navigate F (λ t. storing nothing t + on windows 1 t) (record { 0 = v }) _ ov refl oh (four _ refl) _)) b
   kept-href url noreferrer (Existing x) e oh =
-      (same-window x w e, L _ (kept-navigate F (storing nothing) (answer (navigated w d x) b) _ (navigated-own x e) refl oh (four _ refl)) b)
+      (same-window x w e, L _ (kept-navigate F (storing nothing) (observed (navigated w d x) b) _ (navigated-own x e) refl oh (four _ refl)) b)
 
   kept-iframe-in : (url : Url) (holder : Document) → F .own (document, holder .number .0) ≡ true → F .own (host, url .host .0) ≡ true → Keeps F nothing (iframeIn d first url holder) b
   kept-iframe-in url holder o oh =
       L _ (λ c v ov. (((ov, (o, tt), tt), tt), 1, (omega arith), kept-send F (λ t. storing nothing t + on windows 1 t) _ (own-sees F (window, v) ov) oh (four _ refl) _)) b
 
   kept-iframe : (url : Url) (holder : Holder) → ownHolder w holder ≡ true → F .own (host, url .host .0) ≡ true → Keeps F nothing (iframe d first url holder) b
-  unfolding iframe answer
+  unfolding iframe observed
   kept-iframe url Itself e oh = kept-iframe-in url d od oh
-  kept-iframe url (Within x) e oh = (own-sees F (window, x .0) ox, kept-iframe-in url (otherwise d (answer (ofOrigin d x) b)) (holds (answer (ofOrigin d x) b) refl) oh)
+  kept-iframe url (Within x) e oh = (own-sees F (window, x .0) ox, kept-iframe-in url (otherwise d (observed (ofOrigin d x) b)) (holds (observed (ofOrigin d x) b) refl) oh)
     where
       ox : F .own (window, x .0) ≡ true
       ox = ap (λ (v : WindowNumber). F .own (window, v .0)) (same-window x w e) ∙ ow
 
-      holds : (o : Option Document) → answer (ofOrigin d x) b ≡ o → F .own (document, otherwise d o .number .0) ≡ true
+      holds : (o : Option Document) → observed (ofOrigin d x) b ≡ o → F .own (document, otherwise d o .number .0) ≡ true
       holds none f = od
       holds (some y) f = active-own F b W x ox y (found-active d (isReached (b windows) (b documents) x) (activeDocument (b documents) x) y f)
 
@@ -118,7 +118,7 @@ module _ (F : Part) (b : Tables) (W : Whole F b) (w : WindowNumber) (d : Documen
       (same-window y w e, L _ (kept-navigate F (storing nothing) v (formSending d url method x (Req v)) (navigated-own y e) (z .0) (ap (λ (u : Url). F .own (host, u .host .0)) (z .1) ∙ oh) (four _ refl)) b)
     where
       v : WindowNumber
-      v = answer (navigated w d y) b
+      v = observed (navigated w d y) b
 
       z : (formSending d url method x (Req v) .reference ≡ Req v) × (formSending d url method x (Req v) .url ≡ url)
       z = form-reference d url method x (Req v)
@@ -155,22 +155,22 @@ pub kept-script : (F : Part) (b : Tables) → Whole F b → (w : WindowNumber) (
 unfolding runScript home hosts
 kept-script F b W w out new few lc S = (
   S .home-sees (window, w .0) refl,
-  kept-needs F nothing b NoWindow (answer (reached w) b) _ (λ top e.
+  kept-needs F nothing b NoWindow (observed (reached w) b) _ (λ top e.
       let ow = reached-own F b W (RunScript w out) S w top refl e in (
         S .home-sees (window, w .0) refl,
-        kept-needs F nothing b NoDocument (answer (active w) b) _ (λ d s.
-            let oh = S .hosts-own (d .location .host) (in-left (documentHost (answer (active w) b)) (commandHosts (out .command)) (d .location .host) (shown-host d (answer (active w) b) s)) in
+        kept-needs F nothing b NoDocument (observed (active w) b) _ (λ d s.
+            let oh = S .hosts-own (d .location .host) (in-left (documentHost (observed (active w) b)) (commandHosts (out .command)) (d .location .host) (shown-host d (observed (active w) b) s)) in
             let od = active-own F b W w ow d s in (
               own-sees F (host, d .location .host .0) oh,
-              kept-command F b W w d (store d top (cookieMerge (answer (cookiesOf (d .location .host)) b) new (d .location .protocol)) out) ow od
-                  (λ p k. kept-store F nothing d top (cookieMerge (answer (cookiesOf (d .location .host)) b) new (d .location .protocol)) out p oh od (top-sees top e ow) (merged-few (answer (cookiesOf (d .location .host)) b) new (d .location .protocol) few) k)
-                  (out .command) lc (λ h i. S .hosts-own h (in-right (documentHost (answer (active w) b)) (commandHosts (out .command)) h i)),
+              kept-command F b W w d (store d top (cookieMerge (observed (cookiesOf (d .location .host)) b) new (d .location .protocol)) out) ow od
+                  (λ p k. kept-store F nothing d top (cookieMerge (observed (cookiesOf (d .location .host)) b) new (d .location .protocol)) out p oh od (top-sees top e ow) (merged-few (observed (cookiesOf (d .location .host)) b) new (d .location .protocol) few) k)
+                  (out .command) lc (λ h i. S .hosts-own h (in-right (documentHost (observed (active w) b)) (commandHosts (out .command)) h i)),
             )),
       )),
 )
   where
-    top-sees : (top : WindowNumber) → answer (reached w) b ≡ some top → F .own (window, w .0) ≡ true → sees F (window, top .0) ≡ true
+    top-sees : (top : WindowNumber) → observed (reached w) b ≡ some top → F .own (window, w .0) ≡ true → sees F (window, top .0) ≡ true
     top-sees top e ow = own-sees F (window, top .0) (sym (top-even top e) ∙ ow)
       where
-        top-even : (top : WindowNumber) → answer (reached w) b ≡ some top → F .own (window, w .0) ≡ F .own (window, top .0)
-        top-even top e = reached-even (F .own) b (level-even (F .own) b (W .owns)) steps w top (unfold answer in e)
+        top-even : (top : WindowNumber) → observed (reached w) b ≡ some top → F .own (window, w .0) ≡ F .own (window, top .0)
+        top-even top e = reached-even (F .own) b (level-even (F .own) b (W .owns)) steps w top (unfold observed in e)

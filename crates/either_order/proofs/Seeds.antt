@@ -15,8 +15,8 @@ use Rattle.tables.specs.Labels.{Label, window, request, dns, key, document, hos
 use Rattle.tables.specs.Rows.{sameWindow, sameDocument, oneOf, windowOneOf}
 use Rattle.wim.specs.Nouns.{WindowNumber, DocumentNumber, Host, Event, RunScript, Urlbar, Reload, GoForward, GoBack, CloseCorrupt, EncryptedAnswer, PlainAnswer, DnsResolved, Window, Document, Question, Waiting}
 use Rattle.wim.specs.Walks.{documentsOf, activeDocument, steps, isUnder, removal}
-use Rattle.wim.specs.Program.{reached, active, history, under, question, keyless, keyed, answer}
-use Rattle.wim.specs.Local.{topOf, home, hosts, documentHost}
+use Rattle.wim.specs.Program.{reached, active, history, under, question, keyless, keyed, observed}
+use Rattle.wim.specs.LocalSteps.{topOf, home, hosts, documentHost}
 use Rattle.wim.proofs.Walks.{reached-top}
 use Rattle.either_order.proofs.Sight.{Even, document-even, under-part, document-part}
 use Rattle.either_order.proofs.Part.{Part, sees, level-even, Whole}
@@ -51,9 +51,9 @@ found (Reload w) b = []
 found (GoForward w) b = []
 found (GoBack w) b = []
 found CloseCorrupt b = []
-found (EncryptedAnswer k a) b = waitingNumber (answer (keyed k) b)
-found (PlainAnswer a) b = waitingNumber (answer (keyless (a .number)) b)
-found (DnsResolved a) b = questionNumber (answer (question (a .number)) b)
+found (EncryptedAnswer k a) b = waitingNumber (observed (keyed k) b)
+found (PlainAnswer a) b = waitingNumber (observed (keyless (a .number)) b)
+found (DnsResolved a) b = questionNumber (observed (question (a .number)) b)
 
 pub record Seeds (F : Part) (e : Event) (b : Tables) : Type 0 where
   pub home-sees : (l : Label) → home e b ≡ some l → sees F l ≡ true
@@ -91,29 +91,29 @@ module _ (F : Part) (b : Tables) (W : Whole F b) where
   even = level-even (F .own) b (W .owns)
 
   -- a window that the step stands by and that is reached is owned
-  pub reached-own : (e : Event) → Seeds F e b → (w top : WindowNumber) → home e b ≡ some (window, w .0) → answer (reached w) b ≡ some top → F .own (window, w .0) ≡ true
-  unfolding answer topOf
+  pub reached-own : (e : Event) → Seeds F e b → (w top : WindowNumber) → home e b ≡ some (window, w .0) → observed (reached w) b ≡ some top → F .own (window, w .0) ≡ true
+  unfolding observed topOf
   reached-own e S w top h r = S .home-own (window, w .0) top h (reached-top (b windows) (b documents) steps w top r)
 
   -- the documents of an owned window are owned
-  pub history-own : (w : WindowNumber) → F .own (window, w .0) ≡ true → (d : Document) → In d (answer (history w) b) → F .own (document, d .number .0) ≡ true
-  unfolding answer documentsOf
+  pub history-own : (w : WindowNumber) → F .own (window, w .0) ≡ true → (d : Document) → In d (observed (history w) b) → F .own (document, d .number .0) ≡ true
+  unfolding observed documentsOf
   history-own w o d i =
       let z = in-keep (λ (d : Document). sameWindow (d .window) w) (b documents) d i in
       document-even (F .own) b (level-even (F .own) b (W .owns)) d (z .0) ∙ (ap (λ (n : ℕ). F .own (window, n)) (eqb-true (d .window .0) (w .0) (z .1)) ∙ o)
 
-  pub active-own : (w : WindowNumber) → F .own (window, w .0) ≡ true → (d : Document) → answer (active w) b ≡ some d → F .own (document, d .number .0) ≡ true
-  unfolding answer activeDocument
+  pub active-own : (w : WindowNumber) → F .own (window, w .0) ≡ true → (d : Document) → observed (active w) b ≡ some d → F .own (document, d .number .0) ≡ true
+  unfolding observed activeDocument
   active-own w o d e = history-own w o d (find-in (λ (d : Document). d .active) (documentsOf (b documents) w) d e .0)
 
   -- some of the documents of an owned window
-  pub some-own : (w : WindowNumber) (l : List Document) → F .own (window, w .0) ≡ true → ((d : Document) → In d l → In d (answer (history w) b))
+  pub some-own : (w : WindowNumber) (l : List Document) → F .own (window, w .0) ≡ true → ((d : Document) → In d l → In d (observed (history w) b))
       → (n : DocumentNumber) → oneOf n (map (λ (d : Document). d .number) l) ≡ true → F .own (document, n .0) ≡ true
   some-own w l o h n e = let z = one-of-map l n e in ap (λ (k : ℕ). F .own (document, k)) (z .2) ∙ history-own w o (z .0) (h (z .0) (z .1))
 
   -- what goes with owned documents is owned
-  pub under-own : (gone : List DocumentNumber) → ((n : DocumentNumber) → oneOf n gone ≡ true → F .own (document, n .0) ≡ true) → Removable F (answer (under gone) b)
-  unfolding answer removal even
+  pub under-own : (gone : List DocumentNumber) → ((n : DocumentNumber) → oneOf n gone ≡ true → F .own (document, n .0) ≡ true) → Removable F (observed (under gone) b)
+  unfolding observed removal even
   under-own gone h = record { windows-own = ws; documents-own = ds }
     where
       q : Document → Bool

@@ -20,7 +20,7 @@ use Rattle.tables.specs.Rows.{sameWindow, sameDocument, oneOf, originOf, sameHo
 use Rattle.wim.specs.Nouns.{WindowNumber, DocumentNumber, KeyNumber, Document, Window, HostCookie, Input, Waiting, Parent, Top, Under, Seal, Keyless, Keyed}
 use Rattle.wim.specs.Walks.{documentsOf, activeAmong, activeDocument, windowNumbered, documentNumbered, Above, missing, topmost, heldBy, aboveDocument, aboveParent, aboveRow, above, climb, steps, reachedFrom, isUnder, removal}
 use Rattle.wim.specs.Navigable.{mayNavigate}
-use Rattle.wim.specs.Program.{Query, reached, topLevel, active, history, navigated, ofOrigin, listening, arrived, under, strict, cookiesOf, cookiesFor, question, keyless, keyed, isTop, when, withOrigin, listens, answer}
+use Rattle.wim.specs.Program.{Query, reached, topLevel, active, history, navigated, ofOrigin, listening, arrived, under, strict, cookiesOf, cookiesFor, question, keyless, keyed, isTop, when, withOrigin, listens, observed}
 use Rattle.wim.proofs.Numbers.{row-numbered, found-document}
 use Rattle.tables.proofs.Update.{linear}
 
@@ -226,8 +226,8 @@ has-key k Keyless e = never (cc)
 has-key k (Keyed l) e = inl (ap (λ (n : ℕ). (key, n)) (eqb-true (k .0) (l .0) e))
 
 -- THE ANSWER DEPENDS ON THE PART ALONE.
-pub sound : (P : Label → Bool) (b : Tables) → Even P b → (q : Query) → Sees P q → answer q (restrict P b) ≡ answer q b
-unfolding answer windowNumbered
+pub sound : (P : Label → Bool) (b : Tables) → Even P b → (q : Query) → Sees P q → observed q (restrict P b) ≡ observed q b
+unfolding observed windowNumbered
 sound P b E (reached w) s = reached-local P b E steps w s
 sound P b E (topLevel w) s = ap isTop (at-part P b windows (w .0) s)
 sound P b E (active w) s = active-local P b E w s

@@ -16,9 +16,9 @@ use Rattle.wim.specs.Nouns.{Item, Event}
 use Rattle.wim.specs.Program.{made, run}
 use Rattle.wim.specs.Main.{cookiesIn, program}
 use Rattle.wim.specs.Step.{freshLabels}
-use Rattle.wim.specs.Local.{names, home}
+use Rattle.wim.specs.LocalSteps.{names, home}
 use Rattle.numbered.proofs.Fresh.{Absent}
-use Rattle.either_order.specs.Statement.{Local}
+use Rattle.either_order.specs.Statement.{LocalStep}
 use Rattle.either_order.proofs.Part.{Part, Ok, Same, pulls, pulled-refs, Whole, Moved}
 use Rattle.either_order.proofs.Keeps.{moves}
 use Rattle.either_order.proofs.Commute.{nothing}
@@ -75,7 +75,7 @@ module _ (b : Tables) (s : (t : Table) → Sorted (keyOf t) (cmp t) (b t)) (l : 
         by-found : (a : Label) → In a (found e b) → not (sameLabel a l) ≡ true
         by-found a i = mine a l (λ z. found-stands b a (subst (λ (v : Label). Absent v b) (sym z) ab) e i)
 
-  pub still-absent : (j : Item) → Local j → (In l (freshLabels (j .fresh)) → ⊥) → (In l (names (j .event)) → ⊥) → (c : Tables) (m : Option Message)
+  pub still-absent : (j : Item) → LocalStep j → (In l (freshLabels (j .fresh)) → ⊥) → (In l (names (j .event)) → ⊥) → (c : Tables) (m : Option Message)
       → run (program (j .event) (cookiesIn (j .cookies))) b (freshLabels (j .fresh)) ≡ made c m → Absent l c
   still-absent j S unbrought unnamed c m e = record { nowhere = λ t r i k. go t r (after .rows t r i) k }
     where

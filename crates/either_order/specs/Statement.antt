@@ -13,8 +13,8 @@ use Rattle.shapes.specs.Texts.{item, itemIn}
 use Rattle.wim.specs.Nouns.{WindowNumber, Host, Item, Accepted}
 use Rattle.wim.specs.Main.{cookiesIn}
 use Rattle.wim.specs.Step.{freshLabels, Browser, emptyBrowser, accepted, step}
-use Rattle.wim.specs.Local.{isLocal, stands, hosts, names}
-use Rattle.wim.specs.Wire.{Reply, rehearse}
+use Rattle.wim.specs.LocalSteps.{isLocal, stands, hosts, names}
+use Rattle.wim.specs.Wire.{Returned, rehearse}
 use Rattle.wim.specs.Run.{eventLine, line, play}
 
 -- "Demand 3 speaks of browsers that accepted steps have made from the empty open one."
@@ -27,7 +27,7 @@ abbrev pub EightFree : Tables → Type 0
 EightFree b = (t : Table) → length (b t) + 8 ≤ cap t
 
 -- a local step; "At most four cookies in one answer or from one script step" holds of every item that is read
-pub record Local (i : Item) : Type 0 where
+pub record LocalStep (i : Item) : Type 0 where
   pub kind : isLocal (i .event) ≡ true
   pub cookies : length (cookiesIn (i .cookies)) ≤ 4
 
@@ -46,13 +46,13 @@ pub record Apart (i j : Item) (b : Tables) : Type 0 where
 -- first, and the browser is the same in the end.
 abbrev pub EitherOrder : Type 0
 EitherOrder = (b : Browser) → Made b → EightFree (b .tables)
-    → (i j : Item) → Local i → Local j → Apart i j (b .tables)
+    → (i j : Item) → LocalStep i → LocalStep j → Apart i j (b .tables)
     → (bi bj : Browser) (mi mj : Option Message) → step i b ≡ accepted bi mi → step j b ≡ accepted bj mj
     → (c : Browser) × (step j bi ≡ accepted c mj) × (step i bj ≡ accepted c mi)
 
 -- The same on texts and buffers: each text gets the verdict, writes the count of bytes and leaves the buffer that it does when it comes first.
 -- The buffers and places that are lent may be any with room for the two events.
-pub record SameLine (r s : Reply) : Type 0 where
+pub record SameLine (r s : Returned) : Type 0 where
   pub verdict : r .verdict ≡ s .verdict
   pub count : r .count ≡ s .count
   pub buffer : r .buffer ≡ s .buffer

@@ -8,7 +8,7 @@ use Rattle.types.specs.declared.refusals.Refusal.the-variants.{NotFresh}
 use Rattle.tables.specs.Tables.{Tables, update, apply}
 use Rattle.tables.specs.Labels.{Kind, code, Label}
 use Rattle.shapes.specs.Events.{Message}
-use Rattle.wim.specs.Program.{answer, Program, ask, edit, revise, bring, refuse, done, Outcome, refused, made, run}
+use Rattle.wim.specs.Program.{observed, Program, ask, edit, revise, bring, refuse, done, Outcome, refused, made, run}
 use Rattle.wim.specs.Step.{allFresh, fitted, admit}
 use Rattle.fresh.specs.Brings.{Brings}
 
@@ -26,7 +26,7 @@ data Met (ok : Bool) : Outcome → Type 0 where
 
 met : (p : Program) (ks : List Kind) → Brings ks p → (b : Tables) (f : List Label) → Met (matches ks f) (run p b f)
 unfolding run
-met (ask q k) ks h b f = met (k (answer q b)) ks (h (answer q b)) b f
+met (ask q k) ks h b f = met (k (observed q b)) ks (h (observed q b)) b f
 met (edit t es p) ks h b f = met p ks h (apply t es b) f
 met (revise t g p) ks h b f = met p ks h (update t (map g) b) f
 met (bring κ k) [] h b f = absurd h

@@ -15,7 +15,7 @@ use Rattle.sorted.specs.Table.{looked}
 use Rattle.tables.specs.Tables.{documents, pendingDNS, pendingRequests, Tables}
 use Rattle.tables.specs.Labels.{Label}
 use Rattle.wim.specs.Walks.{documentsOf, activeAmong}
-use Rattle.wim.specs.Program.{Program, refuse, answer, refused, made, run}
+use Rattle.wim.specs.Program.{Program, refuse, observed, refused, made, run}
 use Rattle.wim.specs.History.{neighbour, moved, navBack, navForward}
 use Rattle.wim.specs.Step.{declined, freshLabels}
 use Rattle.wim.specs.View.{rowsOf}
@@ -40,7 +40,7 @@ module _ (w : WindowNumber) (first : Program → Program) where
   moves ds (some e) = refl
 
   goes : (q : Towards) (b : Tables) (f : List Label) → run (nav q w first) b f ≡ run (going (way q (documentsOf (b documents) w))) b f
-  unfolding run answer navBack navForward
+  unfolding run observed navBack navForward
   goes Before b f = let ds = documentsOf (b documents) w in ap (λ (p : Program). run p b f) (moves ds (neighbour (beside Before) ds (activeAmong ds)))
   goes After b f = let ds = documentsOf (b documents) w in ap (λ (p : Program). run p b f) (moves ds (neighbour (beside After) ds (activeAmong ds)))
 

@@ -12,7 +12,7 @@ use Rattle.tables.specs.Rows.{settingActive}
 use Rattle.wim.specs.Walks.{activeAmong}
 use Rattle.wim.specs.Program.{Program, revise, done, _>>_}
 use Rattle.wim.specs.Sending.{cancelNav}
-use Rattle.wim.specs.History.{before, after, neighbour, placeOf, navBack, navForward}
+use Rattle.wim.specs.History.{documentBefore, documentAfter, neighbour, placeOf, navBack, navForward}
 use Rattle.dropping.specs.Effects.{cancelled}
 use Rattle.history.specs.declared.Towards.{Towards}
 use Rattle.history.specs.declared.Towards.the-variants.{Before, After}
@@ -23,8 +23,8 @@ nav Before = navBack
 nav After = navForward
 
 abbrev pub beside : Towards → List Document → Document → Option Document
-beside Before = before
-beside After = after
+beside Before = documentBefore
+beside After = documentAfter
 
 -- the places from which and to which it goes
 abbrev pub places : Option Document → Option Document → Option (ℕ × ℕ)

@@ -15,7 +15,7 @@ use Rattle.types.specs.declared.rows.Document.{Document}
 use Rattle.types.specs.declared.rows.Waiting.{Waiting}
 use Rattle.tables.specs.Tables.{windows, documents, Tables}
 use Rattle.wim.specs.Walks.{documentsOf}
-use Rattle.wim.specs.Program.{made, answer, run}
+use Rattle.wim.specs.Program.{made, observed, run}
 use Rattle.wim.specs.Response.{newDocument, load}
 use Rattle.fresh.specs.Wanted.{kinds, picked}
 use Rattle.fresh.specs.Brings.{Brings}
@@ -36,7 +36,7 @@ module _ (v : WindowNumber) (w : Waiting) (a : Answer) (new : List Cookie) (scri
   -- what the code found is what the program does
   pub loads : (b : Tables) (s : Spot) (row : Document) → Finds (b windows) (b documents) (documentsOf (b documents) v) s → row ≡ newDocument v (s .place) (f .document .0) w a script state
       → made (entered (going (s .gone)) (s .was) row (acted w a new b)) none ≡ run (load v w a new script state) b (picked wantsDocument f)
-  unfolding run answer load
+  unfolding run observed load
   loads b s row e r =
       let stands = r ∙ ap (λ (p : ℕ). newDocument v p (f .document .0) w a script state) (e .place) in
       λ i. made (entered (e .gone i) (e .was i) (stands i) (acted w a new b)) none

@@ -10,7 +10,7 @@ use Rattle.sorted.specs.Table.{looked}
 use Rattle.tables.specs.Rows.{sameWindow, originOf, sameOrigin}
 use Rattle.wim.specs.Nouns.{WindowNumber, Origin, Window, Document, Opener}
 use Rattle.wim.specs.Walks.{activeDocument, hasOrigin, Above, heldBy, above, climb, steps, topAbove, isReached}
-use Rattle.wim.specs.Navigable.{openerOf, ancestorHas, isWindow, reachable, follows, mayNavigate}
+use Rattle.wim.specs.Navigable.{openerOf, ancestorHas, isWindow, navigableDirectly, follows, mayNavigate}
 use Rattle.wim.proofs.Navigable.{byOpener}
 use Rattle.walks.proofs.Up.{no-step, a-step}
 
@@ -56,19 +56,19 @@ module _ (ws : List Window) (ds : List Document) (o : Origin) (v : WindowNumber)
 
 -- RULES 1 TO 3.
 module _ (ws : List Window) (ds : List Document) (o : Origin) (w v : WindowNumber) where
-  pub by-origin : {h : Bool} → h ≡ hasOrigin o (activeDocument ds v) → h ≡ true → true ≡ reachable ws ds o w v
-  unfolding reachable
+  pub by-origin : {h : Bool} → h ≡ hasOrigin o (activeDocument ds v) → h ≡ true → true ≡ navigableDirectly ws ds o w v
+  unfolding navigableDirectly
   by-origin e h = ap (λ (b : Bool). b || (isWindow v (topAbove steps ws ds w) || ancestorHas steps ws ds o v)) (sym (sym e ∙ h))
 
-  not-by-origin : {h x : Bool} → h ≡ hasOrigin o (activeDocument ds v) → h ≡ false → x ≡ (isWindow v (topAbove steps ws ds w) || ancestorHas steps ws ds o v) → x ≡ reachable ws ds o w v
-  unfolding reachable
+  not-by-origin : {h x : Bool} → h ≡ hasOrigin o (activeDocument ds v) → h ≡ false → x ≡ (isWindow v (topAbove steps ws ds w) || ancestorHas steps ws ds o v) → x ≡ navigableDirectly ws ds o w v
+  unfolding navigableDirectly
   not-by-origin e h k = k ∙ ap (λ (b : Bool). b || (isWindow v (topAbove steps ws ds w) || ancestorHas steps ws ds o v)) (sym (sym e ∙ h))
 
   module _ {h : Bool} (e : h ≡ hasOrigin o (activeDocument ds v)) (f : h ≡ false) where
-    pub by-top : {t : Option WindowNumber} {x : Bool} → t ≡ topAbove steps ws ds w → x ≡ isWindow v t → x ≡ true → true ≡ reachable ws ds o w v
+    pub by-top : {t : Option WindowNumber} {x : Bool} → t ≡ topAbove steps ws ds w → x ≡ isWindow v t → x ≡ true → true ≡ navigableDirectly ws ds o w v
     by-top g i k = not-by-origin e f (ap (λ (b : Bool). b || ancestorHas steps ws ds o v) (sym (sym (i ∙ ap (isWindow v) g) ∙ k)))
 
-    pub by-ancestor : {t : Option WindowNumber} {x y : Bool} → t ≡ topAbove steps ws ds w → x ≡ isWindow v t → x ≡ false → y ≡ ancestorHas steps ws ds o v → y ≡ reachable ws ds o w v
+    pub by-ancestor : {t : Option WindowNumber} {x y : Bool} → t ≡ topAbove steps ws ds w → x ≡ isWindow v t → x ≡ false → y ≡ ancestorHas steps ws ds o v → y ≡ navigableDirectly ws ds o w v
     by-ancestor g i k a = not-by-origin e f (a ∙ ap (λ (b : Bool). b || ancestorHas steps ws ds o v) (sym (sym (i ∙ ap (isWindow v) g) ∙ k)))
 
   -- ALL FOUR, n windows left.
@@ -77,18 +77,18 @@ module _ (ws : List Window) (ds : List Document) (o : Origin) (w v : WindowNumbe
     unfolding follows
     follows-none e = no-step (λ k. follows k ws ds o w v) e refl
 
-    follows-more : {x : Bool} → (n ≡ 0 → ⊥) → x ≡ (isReached ws ds v && (reachable ws ds o w v || byOpener (follows (n - 1) ws ds o w) (openerOf ws v))) → x ≡ follows n ws ds o w v
+    follows-more : {x : Bool} → (n ≡ 0 → ⊥) → x ≡ (isReached ws ds v && (navigableDirectly ws ds o w v || byOpener (follows (n - 1) ws ds o w) (openerOf ws v))) → x ≡ follows n ws ds o w v
     unfolding follows
     follows-more e h = a-step (λ k. follows k ws ds o w v) e h
 
     module _ {r : Bool} (e : n ≡ 0 → ⊥) (f : r ≡ isReached ws ds v) where
       pub follows-unreached : r ≡ false → false ≡ follows n ws ds o w v
-      follows-unreached h = follows-more e (ap (λ (b : Bool). b && (reachable ws ds o w v || byOpener (follows (n - 1) ws ds o w) (openerOf ws v))) (sym (sym f ∙ h)))
+      follows-unreached h = follows-more e (ap (λ (b : Bool). b && (navigableDirectly ws ds o w v || byOpener (follows (n - 1) ws ds o w) (openerOf ws v))) (sym (sym f ∙ h)))
 
-      reached : {x : Bool} → r ≡ true → x ≡ (reachable ws ds o w v || byOpener (follows (n - 1) ws ds o w) (openerOf ws v)) → x ≡ follows n ws ds o w v
-      reached h k = follows-more e (k ∙ ap (λ (b : Bool). b && (reachable ws ds o w v || byOpener (follows (n - 1) ws ds o w) (openerOf ws v))) (sym (sym f ∙ h)))
+      reached : {x : Bool} → r ≡ true → x ≡ (navigableDirectly ws ds o w v || byOpener (follows (n - 1) ws ds o w) (openerOf ws v)) → x ≡ follows n ws ds o w v
+      reached h k = follows-more e (k ∙ ap (λ (b : Bool). b && (navigableDirectly ws ds o w v || byOpener (follows (n - 1) ws ds o w) (openerOf ws v))) (sym (sym f ∙ h)))
 
-      module _ {s : Bool} (h : r ≡ true) (g : s ≡ reachable ws ds o w v) where
+      module _ {s : Bool} (h : r ≡ true) (g : s ≡ navigableDirectly ws ds o w v) where
         pub follows-reachable : s ≡ true → true ≡ follows n ws ds o w v
         follows-reachable i = reached h (ap (λ (b : Bool). b || byOpener (follows (n - 1) ws ds o w) (openerOf ws v)) (sym (sym g ∙ i)))
 

@@ -16,7 +16,7 @@ use Rattle.tables.specs.Rows.{originOf}
 use Rattle.wim.specs.Nouns.{WindowNumber, Origin, Window, Document}
 use Rattle.wim.specs.Walks.{activeDocument, isReached}
 use Rattle.wim.specs.Navigable.{mayNavigate, maskOf, navigableMask}
-use Rattle.wim.proofs.Shown.{navigable-first, unreached-none, undocumented-none, shown-mask}
+use Rattle.wim.proofs.NavigableMask.{navigable-first, unreached-none, undocumented-none, displayed-mask}
 use Rattle.navigable.specs.First.{FirstRow}
 
 module _ (ws : List Window) (ds : List Document) (w : WindowNumber) where
@@ -24,7 +24,7 @@ module _ (ws : List Window) (ds : List Document) (w : WindowNumber) where
       → m ≡ maskOf (mayNavigate ws ds o w) ws → m ≡ navigableMask ws ds w
   set-shown r b d e f h i k =
       k ∙ ap (λ (o : Origin). maskOf (mayNavigate ws ds o w) ws) i
-      ∙ sym (shown-mask ws ds w d (sym e ∙ and-left r b h) (sym f ∙ ap (λ (x : Bool). looked x d) (and-right r b h)))
+      ∙ sym (displayed-mask ws ds w d (sym e ∙ and-left r b h) (sym f ∙ ap (λ (x : Bool). looked x d) (and-right r b h)))
 
   pub set-empty : (r b : Bool) (d : Document) → r ≡ isReached ws ds w → looked b d ≡ activeDocument ds w → (r && b) ≡ false → 0 ≡ navigableMask ws ds w
   set-empty true true d e f h = never (cc)

@@ -16,7 +16,7 @@ ghost use lib.ListN.{take};
 ghost use Rattle.sorted.specs.Table.{looked};
 ghost use Rattle.tables.specs.Rows.{originOf};
 ghost use Rattle.wim.specs.Walks.{activeDocument, hasOrigin};
-ghost use Rattle.wim.specs.Navigable.{openerOf, ancestorHas, isWindow, reachable, follows, mayNavigate, maskOf, navigableMask, navigableSize};
+ghost use Rattle.wim.specs.Navigable.{openerOf, ancestorHas, isWindow, navigableDirectly, follows, mayNavigate, maskOf, navigableMask, navigableSize};
 ghost use Rattle.navigable.specs.First.{FirstRow};
 
 // A row of the windows, if there is one. Where there is none, `row` says nothing.
@@ -69,7 +69,7 @@ fn is_window(v: WindowNumber, t: Top) -> bool
 
 // The first three rules of Definition 38: its origin, the top-level window, the origin of one above it.
 fn reachable(ws: Windows, ds: Documents, o: Origin, w: WindowNumber, v: WindowNumber) -> bool
-    ensures { λ r. ⌜ r ≡ reachable (take (ws .count) (ws .rows)) (take (ds .count) (ds .rows)) o w v ⌝ }
+    ensures { λ r. ⌜ r ≡ navigableDirectly (take (ws .count) (ws .rows)) (take (ds .count) (ds .rows)) o w v ⌝ }
 {
     if has_origin(ds, o, v) {
         return true;

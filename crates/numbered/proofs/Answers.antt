@@ -12,7 +12,7 @@ use Rattle.tables.specs.Labels.{key, document}
 use Rattle.tables.specs.Rows.{sameHost}
 use Rattle.wim.specs.Nouns.{WindowNumber, Address, Protocol, Plain, Secure, Url, Cookie, Matching, Reference, Req, Xhr, Keyless, Keyed, Script, ScriptState, Body, Number, Page, Answer, DnsAnswer, Document, Question, Waiting, NoRequest, Mismatch}
 use Rattle.wim.specs.Walks.{activeAmong}
-use Rattle.wim.specs.Program.{Program, answer, ask, history, under, reached, listening, arrived, question, refuseUnless, run}
+use Rattle.wim.specs.Program.{Program, observed, ask, history, under, reached, listening, arrived, question, refuseUnless, run}
 use Rattle.wim.specs.History.{placeOf}
 use Rattle.wim.specs.Response.{actOnHeaders, whereTo, load, arrive, answerWindow, answerScript, answerReached, processResponse}
 use Rattle.wim.specs.Main.{encryptedAnswer, plainAnswer, goOut, resolved}
@@ -78,13 +78,13 @@ module _ {a : Tables} where
         (ends-done _ _ (once-out b (once-kept K) q (Keyed (record { 0 = n })) address i (new-key K n fresh)))))
 
   pub orderly-resolved : (x : DnsAnswer) → Orderly a (ask (question (x .number)) (resolved x))
-  unfolding run answer resolved
-  orderly-resolved x b K = go (answer (question (x .number)) b) refl
+  unfolding run observed resolved
+  orderly-resolved x b K = go (observed (question (x .number)) b) refl
     where
       out : (q : Question) → In q (b pendingDNS) → (t : Bool) → Ends a (refuseUnless t Mismatch (goOut (q .url .protocol) q (x .address))) b
       out q i true = ends-out b K (q .url .protocol) q (x .address) i
       out q i false = orderly-refuse _ b K
 
-      go : (o : Option Question) → answer (question (x .number)) b ≡ o → Ends a (resolved x o) b
+      go : (o : Option Question) → observed (question (x .number)) b ≡ o → Ends a (resolved x o) b
       go none e = orderly-refuse _ b K
       go (some q) e = out q (at-key (keyOf pendingDNS) (cmp pendingDNS) (linear pendingDNS) (x .number .0) (b pendingDNS) q e .0) (sameHost (x .host) (q .request .host))

@@ -13,7 +13,7 @@ use Rattle.tables.specs.Tables.{Table, documents, Row, Tables, Edits, apply}
 use Rattle.tables.specs.Labels.{Kind, code, Label}
 use Rattle.shapes.specs.Events.{Message}
 use Rattle.wim.specs.Nouns.{Document, Refusal, NotFresh, Missing}
-use Rattle.wim.specs.Program.{Query, Answer, answer, Program, ask, edit, revise, bring, refuse, done, needs, stopIf, refuseUnless, refused, made, run}
+use Rattle.wim.specs.Program.{Query, Observed, observed, Program, ask, edit, revise, bring, refuse, done, needs, stopIf, refuseUnless, refused, made, run}
 use Rattle.numbered.proofs.Fresh.{Absent, of-kind}
 use Rattle.numbered.proofs.Once.{Once}
 use Rattle.numbered.proofs.Kept.{Was, Kept, Stays, cuts, cuts-none, kept-edit, kept-revise, once-kept}
@@ -54,9 +54,9 @@ module _ {a : Tables} where
   unfolding run
   orderly-refuse r b K f c m h e = never (cc)
 
-  pub orderly-ask : (q : Query) (k : Answer q → Program) → ((x : Answer q) → Orderly a (k x)) → Orderly a (ask q k)
+  pub orderly-ask : (q : Query) (k : Observed q → Program) → ((x : Observed q) → Orderly a (k x)) → Orderly a (ask q k)
   unfolding run
-  orderly-ask q k g b K = g (answer q b) b K
+  orderly-ask q k g b K = g (observed q b) b K
 
   pub orderly-bring : (κ : Kind) (k : ℕ → Program) → ((n : ℕ) → Absent (κ, n) a → Orderly a (k n)) → Orderly a (bring κ k)
   orderly-bring κ k g b K = ends-bring κ k b (λ n h. g n h b K)

@@ -12,7 +12,7 @@ use Rattle.wim.specs.Nouns.{WindowNumber, DocumentNumber, Cookie, Cancelled, Ba
 use Rattle.wim.specs.Walks.{Removal, activeAmong}
 use Rattle.wim.specs.Program.{Program, done, history}
 use Rattle.wim.specs.Sending.{cancelNav, send}
-use Rattle.wim.specs.History.{before, after, neighbour, placeOf, moved, navBack, navForward}
+use Rattle.wim.specs.History.{documentBefore, documentAfter, neighbour, placeOf, moved, navBack, navForward}
 use Rattle.wim.specs.Script.{store, remove}
 use Rattle.numbered.proofs.Once.{once-question}
 use Rattle.numbered.proofs.Kept.{Stays, stays-if, once-kept, new-question, new-request}
@@ -62,8 +62,8 @@ module _ {a : Tables} where
 
     pub orderly-back : Orderly a (navBack w first)
     unfolding navBack
-    orderly-back = orderly-ask (history w) _ (λ ds. orderly-moved ds (neighbour before ds (activeAmong ds)))
+    orderly-back = orderly-ask (history w) _ (λ ds. orderly-moved ds (neighbour documentBefore ds (activeAmong ds)))
 
     pub orderly-forward : Orderly a (navForward w first)
     unfolding navForward
-    orderly-forward = orderly-ask (history w) _ (λ ds. orderly-moved ds (neighbour after ds (activeAmong ds)))
+    orderly-forward = orderly-ask (history w) _ (λ ds. orderly-moved ds (neighbour documentAfter ds (activeAmong ds)))

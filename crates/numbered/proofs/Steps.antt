@@ -11,9 +11,9 @@ use Rattle.tables.specs.Labels.{Label}
 use Rattle.shapes.specs.Events.{Message}
 use Rattle.wim.specs.Nouns.{WindowNumber, Url, Cookie, Target, NewWindow, Existing, Req, Bare, Event, RunScript, Urlbar, Reload, GoForward, GoBack, CloseCorrupt, EncryptedAnswer, PlainAnswer, DnsResolved, Item, Document, NoWindow, NoDocument, NotFresh, Full}
 use Rattle.wim.specs.Program.{Program, reached, topLevel, active, keyless, keyed, Outcome, refused, made, run}
-use Rattle.wim.specs.Main.{urlbar, shownIn, reload, forward, back, closeCorrupt, cookiesIn, program, sendingTo}
+use Rattle.wim.specs.Main.{urlbar, displayed, reload, forward, back, closeCorrupt, cookiesIn, program, sendingTo}
 use Rattle.wim.specs.Step.{freshLabels, allFresh, fits, admit, stepTables}
-use Rattle.wim.specs.Invariant.{Numbered, Reachable, untouched, stepped}
+use Rattle.wim.specs.Invariant.{Numbered, MadeTables, untouched, stepped}
 use Rattle.numbered.proofs.Fresh.{fresh-absent, fits-sizes}
 use Rattle.numbered.proofs.Once.{Once}
 use Rattle.numbered.proofs.Kept.{kept-self}
@@ -30,12 +30,12 @@ module _ {a : Tables} where
   orderly-urlbar url (Existing w) =
       orderly-ask (topLevel w) _ (λ isTop. orderly-unless isTop NoWindow _ (orderly-ask (active w) _ (λ shown. orderly-needs NoDocument shown _ (λ d. orderly-send _))))
 
-  orderly-shown : (w : WindowNumber) (k : Document → Program) → ((d : Document) → Orderly a (k d)) → Orderly a (shownIn w k)
-  orderly-shown w k g = orderly-ask (reached w) _ (λ found. orderly-needs NoWindow found _ (λ top. orderly-ask (active w) _ (λ shown. orderly-needs NoDocument shown k g)))
+  orderly-displayed : (w : WindowNumber) (k : Document → Program) → ((d : Document) → Orderly a (k d)) → Orderly a (displayed w k)
+  orderly-displayed w k g = orderly-ask (reached w) _ (λ found. orderly-needs NoWindow found _ (λ top. orderly-ask (active w) _ (λ shown. orderly-needs NoDocument shown k g)))
 
   orderly-reload : (w : WindowNumber) → Orderly a (reload w)
   unfolding reload
-  orderly-reload w = orderly-shown w _ (λ d. orderly-cancel (Bare w) _ (orderly-send (sendingTo (Req w) (d .location) (d .referrer))))
+  orderly-reload w = orderly-displayed w _ (λ d. orderly-cancel (Bare w) _ (orderly-send (sendingTo (Req w) (d .location) (d .referrer))))
 
   orderly-close-corrupt : Orderly a closeCorrupt
   unfolding closeCorrupt
@@ -49,8 +49,8 @@ module _ {a : Tables} where
   orderly-program (RunScript w out) new = orderly-script w out new
   orderly-program (Urlbar target url) new = orderly-urlbar url target
   orderly-program (Reload w) new = orderly-reload w
-  orderly-program (GoForward w) new = orderly-shown w _ (λ d. orderly-forward w (λ p. p) (λ p g. g))
-  orderly-program (GoBack w) new = orderly-shown w _ (λ d. orderly-back w (λ p. p) (λ p g. g))
+  orderly-program (GoForward w) new = orderly-displayed w _ (λ d. orderly-forward w (λ p. p) (λ p g. g))
+  orderly-program (GoBack w) new = orderly-displayed w _ (λ d. orderly-back w (λ p. p) (λ p g. g))
   orderly-program CloseCorrupt new = orderly-close-corrupt
   orderly-program (EncryptedAnswer k x) new = orderly-ask (keyed k) _ (orderly-encrypted x new)
   orderly-program (PlainAnswer x) new = orderly-ask (keyless (x .number)) _ (orderly-plain x new)
@@ -102,6 +102,6 @@ numbered-step i b c m N e = record {
     after : Once c
     after = orderly-program (i .event) (cookiesIn (i .cookies)) b (kept-self before) f c m (fresh-absent b f (passed .1)) (passed .0)
 
-pub reachable-numbered : {b : Tables} → Reachable b → Numbered b
-reachable-numbered untouched = numbered-empty
-reachable-numbered (stepped {b = b} {c = c} i m r e) = numbered-step i b c m (reachable-numbered r) e
+pub made-numbered : {b : Tables} → MadeTables b → Numbered b
+made-numbered untouched = numbered-empty
+made-numbered (stepped {b = b} {c = c} i m r e) = numbered-step i b c m (made-numbered r) e

@@ -10,7 +10,7 @@ use Rattle.types.specs.declared.refusals.Refusal.{Refusal}
 use Rattle.types.specs.declared.refusals.Refusal.the-variants.{NotFresh}
 use Rattle.tables.specs.Tables.{Tables}
 use Rattle.tables.specs.Labels.{Label}
-use Rattle.wim.specs.Program.{Query, Answer, answer, Program, ask, Outcome, refused, run}
+use Rattle.wim.specs.Program.{Query, Observed, observed, Program, ask, Outcome, refused, run}
 use Rattle.wim.specs.Step.{declined, freshLabels, fitted, admit, concluded}
 use Rattle.wim.specs.View.{rowsOf}
 use Rattle.fresh.specs.Wanted.{kinds, picked, ready}
@@ -34,6 +34,6 @@ pub performs-as : {shut : Bool} (p q : Program) (b : State) (f : Fresh) (r : Per
 performs-as {shut} p q b f r e a = record { answers = subst (λ (o : Outcome). Answers b (concluded shut (admit (freshLabels f) (rowsOf b) o)) r) (sym e) (a .answers) }
 
 -- a program that asks goes on with the answer
-pub asked : (q : Query) (k : Answer q → Program) (b : Tables) (f : List Label) (o : Answer q) → o ≡ answer q b → run (ask q k) b f ≡ run (k o) b f
+pub asked : (q : Query) (k : Observed q → Program) (b : Tables) (f : List Label) (o : Observed q) → o ≡ observed q b → run (ask q k) b f ≡ run (k o) b f
 unfolding run
-asked q k b f o e = ap (λ (x : Answer q). run (k x) b f) (sym e)
+asked q k b f o e = ap (λ (x : Observed q). run (k x) b f) (sym e)

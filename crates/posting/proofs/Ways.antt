@@ -19,7 +19,7 @@ use Rattle.tables.specs.Labels.{Label}
 use Rattle.tables.specs.Rows.{sameDocument, originOf}
 use Rattle.tables.proofs.Update.{same-tables}
 use Rattle.wim.specs.Walks.{steps, reachedFrom, activeDocument}
-use Rattle.wim.specs.Program.{answer, ask, active, edit, done, needs, Outcome, refused, made, run}
+use Rattle.wim.specs.Program.{observed, ask, active, edit, done, needs, Outcome, refused, made, run}
 use Rattle.wim.specs.Script.{isFor, file, deliver, postMessage}
 use Rattle.walks.proofs.Looked.{looked-yes, looked-no}
 use Rattle.scene.specs.declared.Scene.{Scene}
@@ -46,11 +46,11 @@ module _ (s : Scene) (message : ℕ) (to : Addressee) (w : Tables) (f : List Lab
 
   pub reached-target : (x : WindowNumber) (b : Bool) (top : WindowNumber) (o : Option Document) → looked b top ≡ reachedFrom steps (w windows) (w documents) x → b ≡ true → o ≡ activeDocument (w documents) x
       → posts x ≡ delivers o
-  unfolding run postMessage answer towards
+  unfolding run postMessage observed towards
   reached-target x b top o e t h = ap (towards x) (sym (looked-yes b top e t)) ∙ ap delivers (sym h)
 
   pub no-target : (x : WindowNumber) (b : Bool) (top : WindowNumber) → looked b top ≡ reachedFrom steps (w windows) (w documents) x → b ≡ false → posts x ≡ refused (Lacking NoWindow)
-  unfolding run postMessage answer towards
+  unfolding run postMessage observed towards
   no-target x b top e t = ap (towards x) (sym (looked-no b top e t))
 
   -- 85: the message is for the active document, or not
@@ -61,11 +61,11 @@ module _ (s : Scene) (message : ℕ) (to : Addressee) (w : Tables) (f : List Lab
   files d b = run (edit inputs (cond b (file (d .number) (length (keep (λ (i : Input). sameDocument (i .document) (d .number)) (w inputs))) news) []) (done none)) (stored s w) f
 
   pub heard : (b : Bool) (d : Document) (row : Input) → (b && isFor to d) ≡ true → row ≡ nextInput (d .number) news (w inputs) → delivers (looked b d) ≡ run (first s (edit inputs (put row ∷ []) (done none))) w f
-  unfolding run deliver answer
+  unfolding run deliver observed
   heard true d row e i = ap (files d) e ∙ ap (λ (r : Input). run (first s (edit inputs (put r ∷ []) (done none))) w f) (sym i)
   heard false d row e i = absurd (false≢true e)
 
   pub unheard : (b : Bool) (d : Document) → (b && isFor to d) ≡ false → delivers (looked b d) ≡ run (first s (done none)) w f
-  unfolding run deliver answer
+  unfolding run deliver observed
   unheard true d e = ap (files d) e ∙ ap (λ (v : Tables). run (done none) v f) (unedited (stored s w))
   unheard false d e = refl

@@ -17,7 +17,7 @@ use Rattle.shapes.specs.Events.{eventOf}
 use Rattle.shapes.specs.Texts.{Taken, unread, item, itemIn}
 use Rattle.wim.specs.Step.{Browser, Result, declined, accepted, step}
 use Rattle.wim.specs.View.{view}
-use Rattle.wim.specs.Wire.{Reply, refusing, putInto, replying, rehearsing, rehearse}
+use Rattle.wim.specs.Wire.{Returned, refusing, putInto, returning, rehearsing, rehearse}
 use Rattle.rehearsal.specs.declared.steps.Rehearsed.{Rehearsed}
 use Rattle.rehearsal.specs.Rehearses.{saying, Rehearses}
 use Rattle.rehearsal.proofs.Replying.{other-verdict}
@@ -28,10 +28,10 @@ pub one-result : {text : List ℕ} {b c : State} {out : List ℕ} {place : ℕ} 
     → (r .verdict ≡ s .verdict) × (view (r .browser) ≡ view (s .browser)) × (r .count ≡ s .count) × (out₁ ≡ out₂)
 one-result {text} {b} {c} {out} {place} {r} {s} {out₁} {out₂} e u v =
     let same : saying r out₁ ≡ saying s out₂ = u .tells ∙ ap (λ (x : Browser). rehearse text x out place) e ∙ sym (v .tells) in
-    (ap (λ (x : Reply). x .verdict) same, ap (λ (x : Reply). x .browser) same, ap (λ (x : Reply). x .count) same, ap (λ (x : Reply). x .buffer) same)
+    (ap (λ (x : Returned). x .verdict) same, ap (λ (x : Returned). x .browser) same, ap (λ (x : Returned). x .count) same, ap (λ (x : Returned). x .buffer) same)
 
 -- what a refusal leaves of a buffer, and how much it writes
-pub record Idle (out : List ℕ) (x : Reply) : Type 0 where
+pub record Idle (out : List ℕ) (x : Returned) : Type 0 where
   pub kept : x .buffer ≡ out
   pub nothing : x .count ≡ 0
 
@@ -39,12 +39,12 @@ idle : (why : Refusal) (b : Browser) (out : List ℕ) → Idle out (refusing why
 idle why b out = record { kept = refl; nothing = refl }
 
 module _ (out : List ℕ) (place : ℕ) (b : Browser) (why : Refusal) where
-  replying-idle : (o : Result) → replying o b out place .verdict ≡ Refused why → Idle out (replying o b out place)
+  replying-idle : (o : Result) → returning o b out place .verdict ≡ Refused why → Idle out (returning o b out place)
   replying-idle (declined r) e = idle r b out
   replying-idle (accepted c none) e = other-verdict e
   replying-idle (accepted c (some m)) e = go (leb (place + length (write (eventOf m))) (length out)) e
     where
-      sent : Reply
+      sent : Returned
       sent = record { verdict = Accepted; browser = c; count = length (write (eventOf m)); buffer = putInto out place (write (eventOf m)) }
 
       go : (t : Bool) → cond t sent (refusing NoRoom b out) .verdict ≡ Refused why → Idle out (cond t sent (refusing NoRoom b out))
@@ -59,5 +59,5 @@ pub untouched : {text : List ℕ} {b : State} {out : List ℕ} {place : ℕ} {r 
     → Rehearses text b out place r out₂ → r .verdict ≡ Refused why → (r .browser ≡ b) × (r .count ≡ 0) × (out₂ ≡ out)
 unfolding rehearse
 untouched {text} {b} {out} {place} {r} {out₂} why u e =
-    let i = rehearsing-idle out place (view b) why (itemIn text) (sym (ap (λ (x : Reply). x .verdict) (u .tells)) ∙ e) in
-    (u .same why e, ap (λ (x : Reply). x .count) (u .tells) ∙ i .nothing, ap (λ (x : Reply). x .buffer) (u .tells) ∙ i .kept)
+    let i = rehearsing-idle out place (view b) why (itemIn text) (sym (ap (λ (x : Returned). x .verdict) (u .tells)) ∙ e) in
+    (u .same why e, ap (λ (x : Returned). x .count) (u .tells) ∙ i .nothing, ap (λ (x : Returned). x .buffer) (u .tells) ∙ i .kept)

@@ -26,7 +26,7 @@ use Rattle.writing.specs.Wrote.{Wrote}
 use Rattle.wim.specs.Step.{Browser, Result, declined, accepted, step}
 use Rattle.wim.specs.Run.{performed}
 use Rattle.wim.specs.View.{view, Told, settled}
-use Rattle.wim.specs.Wire.{Reply, refusing, replying, rehearsing, rehearse}
+use Rattle.wim.specs.Wire.{Returned, refusing, returning, rehearsing, rehearse}
 use Rattle.draft.specs.Gives.{Answers}
 use Rattle.rehearsal.specs.Rehearses.{Rehearses}
 
@@ -54,11 +54,11 @@ module _ (b : State) (p : Performed) where
   taking-refused (item i) r e v a = other-verdict (sym (ap (λ (x : Reading). x .verdict) e) ∙ v)
 
 -- what is told, with a count and the buffer as it is left
-abbrev reply : Told → ℕ → List ℕ → Reply
+abbrev reply : Told → ℕ → List ℕ → Returned
 reply t n out = record { verdict = t .verdict; browser = t .browser; count = n; buffer = out }
 
 module _ (out : List ℕ) (place : ℕ) (c : Browser) where
-  replied : (o : Result) {n : ℕ} {out₂ : List ℕ} → Wrote (settled c o .message) out place out₂ (Bytes n) → reply (settled c o) n out₂ ≡ replying o c out place
+  replied : (o : Result) {n : ℕ} {out₂ : List ℕ} → Wrote (settled c o .message) out place out₂ (Bytes n) → reply (settled c o) n out₂ ≡ returning o c out place
   replied (declined why) w = ap₂ (reply (settled c (declined why))) (same-count (w .says)) (w .leaves)
   replied (accepted d none) w = ap₂ (reply (settled c (accepted d none))) (same-count (w .says)) (w .leaves)
   replied (accepted d (some m)) {n} {out₂} w = go (leb (place + length (write (eventOf m))) (length out)) (w .says) (w .leaves)
@@ -71,7 +71,7 @@ module _ (out : List ℕ) (place : ℕ) (c : Browser) where
       go true e f = ap₂ (reply (settled c (accepted d (some m)))) (same-count e) f
       go false e f = other-answer e
 
-  no-room : (o : Result) {out₂ : List ℕ} → Wrote (settled c o .message) out place out₂ Crowded → refusing NoRoom c out₂ ≡ replying o c out place
+  no-room : (o : Result) {out₂ : List ℕ} → Wrote (settled c o .message) out place out₂ Crowded → refusing NoRoom c out₂ ≡ returning o c out place
   no-room (declined why) w = other-answer (sym (w .says))
   no-room (accepted d none) w = other-answer (sym (w .says))
   no-room (accepted d (some m)) {out₂} w = go (leb (place + length (write (eventOf m))) (length out)) (w .says) (w .leaves)
@@ -84,7 +84,7 @@ module _ (out : List ℕ) (place : ℕ) (c : Browser) where
       go true e f = other-answer (sym e)
       go false e f = ap (refusing NoRoom c) f
 
-  replying-is : (t : Taken) → replying (performed t c) c out place ≡ rehearsing t c out place
+  replying-is : (t : Taken) → returning (performed t c) c out place ≡ rehearsing t c out place
   replying-is (unread why) = refl
   replying-is (item i) = refl
 

@@ -7,11 +7,11 @@ use Rattle.types.specs.declared.browser.Browser.{Browser as State}
 use Rattle.types.specs.declared.refusals.Refusal.{Refusal}
 use Rattle.types.specs.declared.refusals.Verdict.the-variants.{Refused}
 use Rattle.wim.specs.View.{view}
-use Rattle.wim.specs.Wire.{Reply, rehearse}
+use Rattle.wim.specs.Wire.{Returned, rehearse}
 use Rattle.rehearsal.specs.declared.steps.Rehearsed.{Rehearsed}
 
 -- what a result says, with the buffer as it is left
-abbrev pub saying : Rehearsed → List ℕ → Reply
+abbrev pub saying : Rehearsed → List ℕ → Returned
 saying r out = record { verdict = r .verdict; browser = view (r .browser); count = r .count; buffer = out }
 
 -- The step was asked of the browser b with the buffer out and a place in it: r is given, and out₂ is left.

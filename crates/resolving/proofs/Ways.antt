@@ -17,7 +17,7 @@ use Rattle.tables.specs.Tables.{pendingDNS, keyOf, cmp, Tables}
 use Rattle.tables.specs.Labels.{Label}
 use Rattle.tables.specs.Rows.{sameHost}
 use Rattle.shapes.specs.Events.{unsealed, sealed}
-use Rattle.wim.specs.Program.{ask, answer, question, refuseUnless, refused, made, run}
+use Rattle.wim.specs.Program.{ask, observed, question, refuseUnless, refused, made, run}
 use Rattle.wim.specs.Main.{goOut, resolved}
 use Rattle.fresh.specs.Wanted.{kinds, picked}
 use Rattle.fresh.specs.Brings.{Brings}
@@ -26,7 +26,7 @@ use Rattle.resolving.specs.Waits.{handedOver}
 -- THE QUESTION is looked up by its number.
 module _ (a : DnsAnswer) (b : Tables) (f : List Label) (found : Bool) (q : Question) (e : looked found q ≡ at (keyOf pendingDNS) (cmp pendingDNS) (a .number .0) (b pendingDNS)) where
   ran-found : (x : Bool) → found ≡ x → run (ask (question (a .number)) (resolved a)) b f ≡ run (resolved a (looked x q)) b f
-  unfolding run answer
+  unfolding run observed
   ran-found x t = ap (λ (o : Option Question). run (resolved a o) b f) (sym e) ∙ ap (λ (y : Bool). run (resolved a (looked y q)) b f) t
 
   pub no-question : found ≡ false → run (ask (question (a .number)) (resolved a)) b f ≡ refused (Lacking NoQuestion)

@@ -12,8 +12,8 @@ use Rattle.tables.specs.Rows.{originOf, sameOrigin, withState, withScript, sett
 use Rattle.wim.specs.Nouns.{WindowNumber, Url, Method, Data, Reference, Xhr, Target, NewWindow, Existing, Holder, Itself, Within, Addressee, Command, Nothing, Href, Iframe, Form, SetScript, SetScriptState, XmlHttpRequest, Back, Forward, Close, PostMessage, Cookie, Output, OpenedBy, Posted, Document, NoWindow, NoDocument}
 use Rattle.wim.specs.Walks.{documentsOf, activeAmong, activeDocument, isReached, hasOrigin}
 use Rattle.wim.specs.Cookies.{cookieMerge}
-use Rattle.wim.specs.Program.{answer, Program, reached, active, navigated, ofOrigin, arrived, cookiesOf, when, withOrigin}
-use Rattle.wim.specs.History.{before, after, neighbour, placeOf, moved, navBack, navForward}
+use Rattle.wim.specs.Program.{observed, Program, reached, active, navigated, ofOrigin, arrived, cookiesOf, when, withOrigin}
+use Rattle.wim.specs.History.{documentBefore, documentAfter, neighbour, placeOf, moved, navBack, navForward}
 use Rattle.wim.specs.Script.{otherwise, store, href, openerUnless, iframe, iframeIn, isFormMethod, form, setting, isForbidden, urlOrigin, xhr, close, isFor, file, deliver, postMessage, command, runScript}
 use Rattle.wim.specs.Invariant.{Numbered}
 use Rattle.rooted.proofs.Stands.{Stands}
@@ -42,12 +42,12 @@ module _ (b : Tables) (N : Numbered b) (S : Stands (b windows) (b documents) (b 
           subst (λ (p : ℕ). Stands (c windows) (map (settingActive v (e .place) true) (map (settingActive v p false) (c documents))) (c inputs)) (sym place) (whole-moved b N S c T v a e f (z .0) (z .1))))
 
   pub kept-back : (v : WindowNumber) → Keeps Whole (Fresh b) (navBack v first) b
-  unfolding navBack answer
-  kept-back v = kept-moved v (activeAmong (documentsOf (b documents) v)) refl before (λ d e g. find-in (λ (x : Document). eqb (suc (x .place)) (d .place)) (documentsOf (b documents) v) e g .0)
+  unfolding navBack observed
+  kept-back v = kept-moved v (activeAmong (documentsOf (b documents) v)) refl documentBefore (λ d e g. find-in (λ (x : Document). eqb (suc (x .place)) (d .place)) (documentsOf (b documents) v) e g .0)
 
   pub kept-forward : (v : WindowNumber) → Keeps Whole (Fresh b) (navForward v first) b
-  unfolding navForward answer
-  kept-forward v = kept-moved v (activeAmong (documentsOf (b documents) v)) refl after (λ d e g. find-in (λ (x : Document). eqb (x .place) (suc (d .place))) (documentsOf (b documents) v) e g .0)
+  unfolding navForward observed
+  kept-forward v = kept-moved v (activeAmong (documentsOf (b documents) v)) refl documentAfter (λ d e g. find-in (λ (x : Document). eqb (x .place) (suc (d .place))) (documentsOf (b documents) v) e g .0)
 
   -- HREF
   kept-href : (w : WindowNumber) (d : Document) (url : Url) (noreferrer : Bool) (target : Target) → Keeps Whole (Fresh b) (href w d first url noreferrer target) b
@@ -56,8 +56,8 @@ module _ (b : Tables) (N : Numbered b) (S : Stands (b windows) (b documents) (b 
   kept-href w d url noreferrer (Existing x) = L Whole (Fresh b) _ b (λ c T. kept-send (Fresh b) _ _ (λ l. whole-touched b N S c T))
 
   -- IFRAME
-  other-in : (d : Document) → In d (b documents) → (v : WindowNumber) → In (otherwise d (answer (ofOrigin d v) b)) (b documents)
-  unfolding answer activeDocument
+  other-in : (d : Document) → In d (b documents) → (v : WindowNumber) → In (otherwise d (observed (ofOrigin d v) b)) (b documents)
+  unfolding observed activeDocument
   other-in d i v = go (isReached (b windows) (b documents) v) (activeAmong (documentsOf (b documents) v)) refl
     where
       one : (t : Bool) (e : Document) → In e (b documents) → In (otherwise d (when t (some e))) (b documents)
@@ -76,7 +76,7 @@ module _ (b : Tables) (N : Numbered b) (S : Stands (b windows) (b documents) (b 
   kept-iframe : (d : Document) → In d (b documents) → (url : Url) (holder : Holder) → Keeps Whole (Fresh b) (iframe d first url holder) b
   unfolding iframe
   kept-iframe d i url Itself = kept-frame d url d i
-  kept-iframe d i url (Within x) = kept-frame d url (otherwise d (answer (ofOrigin d x) b)) (other-in d i x)
+  kept-iframe d i url (Within x) = kept-frame d url (otherwise d (observed (ofOrigin d x) b)) (other-in d i x)
 
   -- FORM
   kept-form : (w : WindowNumber) (d : Document) (url : Url) (method : Method) (data′ : Data) (target : Target) → Keeps Whole (Fresh b) (form w d first url method data′ target) b
@@ -87,7 +87,7 @@ module _ (b : Tables) (N : Numbered b) (S : Stands (b windows) (b documents) (b 
   -- SETSCRIPT, SETSCRIPTSTATE
   kept-setting : (d : Document) (x : WindowNumber) (f : Document → Document) → Calm f → Keeps Whole (Fresh b) (setting d first x f) b
   unfolding setting
-  kept-setting d x f m = L Whole (Fresh b) _ b (λ c T l. stands-calm (c windows) (c documents) (c inputs) _ (calm-changing (otherwise d (answer (ofOrigin d x) b) .number) f m) (whole-touched b N S c T))
+  kept-setting d x f m = L Whole (Fresh b) _ b (λ c T l. stands-calm (c windows) (c documents) (c inputs) _ (calm-changing (otherwise d (observed (ofOrigin d x) b) .number) f m) (whole-touched b N S c T))
 
   -- XMLHTTPREQUEST
   kept-xhr : (d : Document) (url : Url) (method : Method) (data′ : Data) (reference : Reference) → Keeps Whole (Fresh b) (xhr d first url method data′ reference) b
@@ -97,22 +97,22 @@ module _ (b : Tables) (N : Numbered b) (S : Stands (b windows) (b documents) (b 
 
   -- CLOSE
   kept-close : (w : WindowNumber) (d : Document) (x : WindowNumber) → Keeps Whole (Fresh b) (close w d first x) b
-  unfolding close answer
+  unfolding close observed
   kept-close w d x = L Whole (Fresh b) _ b (λ c T l. whole-closed b N S c T _)
 
   -- POSTMESSAGE
   kept-deliver : (w : WindowNumber) (d : Document) (message : ℕ) (to : Addressee) (o : Option Document) → ((e : Document) → o ≡ some e → In e (b documents)) → Keeps Whole (Fresh b) (deliver w d first message to o) b
-  unfolding deliver answer
+  unfolding deliver observed
   kept-deliver w d message to none h = L Whole (Fresh b) _ b (λ c T l. whole-touched b N S c T)
   kept-deliver w d message to (some e) h = L Whole (Fresh b) _ b (λ c T. go (isFor to e) c T)
     where
-      go : (t : Bool) (c : Tables) → Touched b c → Whole (apply inputs (cond t (file (e .number) (answer (arrived (e .number)) b) (Posted w (originOf d) message)) []) c)
+      go : (t : Bool) (c : Tables) → Touched b c → Whole (apply inputs (cond t (file (e .number) (observed (arrived (e .number)) b) (Posted w (originOf d) message)) []) c)
       go true c T l = whole-filed b N S c T e (h e refl) (Posted w (originOf d) message)
       go false c T l = whole-touched b N S c T
 
   kept-post : (w : WindowNumber) (d : Document) (x : WindowNumber) (message : ℕ) (to : Addressee) → Keeps Whole (Fresh b) (postMessage w d first x message to) b
-  unfolding postMessage answer activeDocument
-  kept-post w d x message to = kept-needs Whole (Fresh b) NoWindow (answer (reached x) b) _ b (λ top f. kept-deliver w d message to (answer (active x) b) (λ e g. active-in (b documents) x e g .0))
+  unfolding postMessage observed activeDocument
+  kept-post w d x message to = kept-needs Whole (Fresh b) NoWindow (observed (reached x) b) _ b (λ top f. kept-deliver w d message to (observed (active x) b) (λ e g. active-in (b documents) x e g .0))
 
   -- EACH COMMAND of an active document
   kept-command : (w : WindowNumber) (d : Document) → In d (b documents) → (k : Command) → Keeps Whole (Fresh b) (command w d first k) b
@@ -124,15 +124,15 @@ module _ (b : Tables) (N : Numbered b) (S : Stands (b windows) (b documents) (b 
   kept-command w d i (SetScript x script) = kept-setting d x (withScript script) (calm-script script)
   kept-command w d i (SetScriptState x state) = kept-setting d x (withState state) (calm-state state)
   kept-command w d i (XmlHttpRequest url method data′ matching) = kept-xhr d url method data′ (Xhr (d .number) matching)
-  kept-command w d i (Back x) = kept-back (answer (navigated w d x) b)
-  kept-command w d i (Forward x) = kept-forward (answer (navigated w d x) b)
+  kept-command w d i (Back x) = kept-back (observed (navigated w d x) b)
+  kept-command w d i (Forward x) = kept-forward (observed (navigated w d x) b)
   kept-command w d i (Close x) = kept-close w d x
   kept-command w d i (PostMessage x message to) = kept-post w d x message to
 
 -- RUNSCRIPT
 pub kept-script : (b : Tables) → Numbered b → Stands (b windows) (b documents) (b inputs) → (w : WindowNumber) (out : Output) (new : List Cookie) → Keeps Whole (Fresh b) (runScript w out new) b
-unfolding runScript answer activeDocument
+unfolding runScript observed activeDocument
 kept-script b N S w out new =
-    kept-needs Whole (Fresh b) NoWindow (answer (reached w) b) _ b (λ top f. kept-needs Whole (Fresh b) NoDocument (answer (active w) b) _ b (λ d g.
-    (let merged = cookieMerge (answer (cookiesOf (d .location .host)) b) new (d .location .protocol) in
+    kept-needs Whole (Fresh b) NoWindow (observed (reached w) b) _ b (λ top f. kept-needs Whole (Fresh b) NoDocument (observed (active w) b) _ b (λ d g.
+    (let merged = cookieMerge (observed (cookiesOf (d .location .host)) b) new (d .location .protocol) in
     kept-command b N S (store d top merged out) (light-store d top merged out) w d (active-in (b documents) w d g .0) (out .command))))

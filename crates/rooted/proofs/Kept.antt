@@ -11,8 +11,8 @@ use Rattle.tables.specs.Labels.{Label}
 use Rattle.tables.specs.Rows.{sameHost}
 use Rattle.shapes.specs.Events.{Message}
 use Rattle.wim.specs.Nouns.{WindowNumber, Url, Cookie, Address, Protocol, Plain, Secure, Target, NewWindow, Existing, Answer, DnsAnswer, Event, RunScript, Urlbar, Reload, GoForward, GoBack, CloseCorrupt, EncryptedAnswer, PlainAnswer, DnsResolved, Item, Nobody, Document, Question, Waiting, NotFresh, Full, NoWindow, NoDocument, NoQuestion, NoRequest, Mismatch}
-use Rattle.wim.specs.Program.{answer, Program, reached, topLevel, active, keyed, keyless, question, Outcome, refused, made, run}
-use Rattle.wim.specs.Main.{shownIn, urlbar, reload, forward, back, closeCorrupt, encryptedAnswer, plainAnswer, goOut, resolved, cookiesIn, program}
+use Rattle.wim.specs.Program.{observed, Program, reached, topLevel, active, keyed, keyless, question, Outcome, refused, made, run}
+use Rattle.wim.specs.Main.{displayed, urlbar, reload, forward, back, closeCorrupt, encryptedAnswer, plainAnswer, goOut, resolved, cookiesIn, program}
 use Rattle.wim.specs.Step.{freshLabels, allFresh, fits, admit, stepTables}
 use Rattle.wim.specs.Invariant.{Numbered, Rooted}
 use Rattle.rooted.proofs.Stands.{Stands, rooted-stands, stands-rooted, stands-empty}
@@ -34,14 +34,14 @@ module _ (b : Tables) (N : Numbered b) (S : Stands (b windows) (b documents) (b 
   unfolding urlbar
   kept-urlbar url NewWindow = λ n f. kept-send (Fresh b) _ _ (whole-top b N S b (untouched b) n f Nobody)
   kept-urlbar url (Existing w) =
-      kept-unless Whole (Fresh b) (answer (topLevel w) b) NoWindow _ b (kept-needs Whole (Fresh b) NoDocument (answer (active w) b) _ b (λ d e. kept-send (Fresh b) _ b (λ l. S)))
+      kept-unless Whole (Fresh b) (observed (topLevel w) b) NoWindow _ b (kept-needs Whole (Fresh b) NoDocument (observed (active w) b) _ b (λ d e. kept-send (Fresh b) _ b (λ l. S)))
 
-  kept-shown : (w : WindowNumber) (k : Document → Program) → ((d : Document) → Keeps Whole (Fresh b) (k d) b) → Keeps Whole (Fresh b) (shownIn w k) b
-  kept-shown w k h = kept-needs Whole (Fresh b) NoWindow (answer (reached w) b) _ b (λ top e. kept-needs Whole (Fresh b) NoDocument (answer (active w) b) k b (λ d f. h d))
+  kept-displayed : (w : WindowNumber) (k : Document → Program) → ((d : Document) → Keeps Whole (Fresh b) (k d) b) → Keeps Whole (Fresh b) (displayed w k) b
+  kept-displayed w k h = kept-needs Whole (Fresh b) NoWindow (observed (reached w) b) _ b (λ top e. kept-needs Whole (Fresh b) NoDocument (observed (active w) b) k b (λ d f. h d))
 
   kept-reload : (w : WindowNumber) → Keeps Whole (Fresh b) (reload w) b
   unfolding reload
-  kept-reload w = kept-shown w _ (λ d. kept-send (Fresh b) _ _ (λ l. S))
+  kept-reload w = kept-displayed w _ (λ d. kept-send (Fresh b) _ _ (λ l. S))
 
   -- CLOSECORRUPT
   kept-corrupt : Keeps Whole (Fresh b) closeCorrupt b
@@ -72,12 +72,12 @@ module _ (b : Tables) (N : Numbered b) (S : Stands (b windows) (b documents) (b 
   kept-event (RunScript w out) new = kept-script b N S w out new
   kept-event (Urlbar target url) new = kept-urlbar url target
   kept-event (Reload w) new = kept-reload w
-  kept-event (GoForward w) new = kept-shown w _ (λ d. kept-forward b N S (λ p. p) light-none w)
-  kept-event (GoBack w) new = kept-shown w _ (λ d. kept-back b N S (λ p. p) light-none w)
+  kept-event (GoForward w) new = kept-displayed w _ (λ d. kept-forward b N S (λ p. p) light-none w)
+  kept-event (GoBack w) new = kept-displayed w _ (λ d. kept-back b N S (λ p. p) light-none w)
   kept-event CloseCorrupt new = kept-corrupt
-  kept-event (EncryptedAnswer k a) new = kept-encrypted a new (answer (keyed k) b)
-  kept-event (PlainAnswer a) new = kept-plain a new (answer (keyless (a .number)) b)
-  kept-event (DnsResolved a) new = kept-resolved a (answer (question (a .number)) b)
+  kept-event (EncryptedAnswer k a) new = kept-encrypted a new (observed (keyed k) b)
+  kept-event (PlainAnswer a) new = kept-plain a new (observed (keyless (a .number)) b)
+  kept-event (DnsResolved a) new = kept-resolved a (observed (question (a .number)) b)
 
 -- an accepted step is a run, with fresh numbers
 admitted : (f : List Label) (b c : Tables) (m : Option Message) (o : Outcome) → admit f b o ≡ made c m → (o ≡ made c m) × (allFresh b f ≡ true)

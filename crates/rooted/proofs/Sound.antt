@@ -6,7 +6,7 @@ use Rattle.tables.specs.Tables.{Tables, noRows}
 use Rattle.shapes.specs.Events.{Message}
 use Rattle.wim.specs.Program.{made}
 use Rattle.wim.specs.Step.{stepTables}
-use Rattle.wim.specs.Invariant.{Sound, Reachable, untouched, stepped}
+use Rattle.wim.specs.Invariant.{Sound, MadeTables, untouched, stepped}
 use Rattle.numbered.proofs.Steps.{numbered-empty, numbered-step}
 use Rattle.rooted.proofs.Kept.{rooted-empty, rooted-step}
 
@@ -18,6 +18,6 @@ sound-step i b c m s e =
     let n = numbered-step i b c m (s .numbered) e in
     record { numbered = n; rooted = rooted-step i b c m (s .numbered) n (s .rooted) e }
 
-pub reachable-sound : {b : Tables} → Reachable b → Sound b
-reachable-sound untouched = sound-empty
-reachable-sound (stepped {b = b} {c = c} i m r e) = sound-step i b c m (reachable-sound r) e
+pub made-sound : {b : Tables} → MadeTables b → Sound b
+made-sound untouched = sound-empty
+made-sound (stepped {b = b} {c = c} i m r e) = sound-step i b c m (made-sound r) e

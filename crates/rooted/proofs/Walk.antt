@@ -13,11 +13,11 @@ use Rattle.tables.specs.Tables.{Tables, update, apply}
 use Rattle.tables.specs.Labels.{Kind, window, request, dns, key, document, host, code, Label}
 use Rattle.shapes.specs.Events.{Message}
 use Rattle.wim.specs.Nouns.{Missing, NotFresh}
-use Rattle.wim.specs.Program.{answer, Program, ask, edit, revise, bring, refuse, done, needs, stopIf, refuseUnless, Outcome, refused, made, run}
+use Rattle.wim.specs.Program.{observed, Program, ask, edit, revise, bring, refuse, done, needs, stopIf, refuseUnless, Outcome, refused, made, run}
 
 -- `P` holds at the end, where fresh numbers are brought of which `F` is known
 abbrev pub Keeps : (Tables → Type 0) → (Label → Type 0) → Program → Tables → Type 0
-Keeps P F (ask q k) b = Keeps P F (k (answer q b)) b
+Keeps P F (ask q k) b = Keeps P F (k (observed q b)) b
 Keeps P F (edit t es p) b = Keeps P F p (apply t es b)
 Keeps P F (revise t g p) b = Keeps P F p (update t (map g) b)
 Keeps P F (bring κ k) b = (n : ℕ) → F (κ, n) → Keeps P F (k n) b
@@ -44,7 +44,7 @@ module _ (P : Tables → Type 0) (F : Label → Type 0) where
   -- A RUN OF SUCH A PROGRAM ends as it says.
   pub kept-run : (p : Program) (b : Tables) (f : List Label) → Keeps P F p b → ((l : Label) → In l f → F l) → (c : Tables) (m : Option Message) → run p b f ≡ made c m → P c
   unfolding run
-  kept-run (ask q k) b f h x c m e = kept-run (k (answer q b)) b f h x c m e
+  kept-run (ask q k) b f h x c m e = kept-run (k (observed q b)) b f h x c m e
   kept-run (edit t es p) b f h x c m e = kept-run p (apply t es b) f h x c m e
   kept-run (revise t g p) b f h x c m e = kept-run p (update t (map g) b) f h x c m e
   kept-run (bring κ k) b [] h x c m e = never (cc)

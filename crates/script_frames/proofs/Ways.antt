@@ -16,7 +16,7 @@ use Rattle.types.specs.declared.rows.Window.{Window}
 use Rattle.sorted.specs.Table.{put}
 use Rattle.tables.specs.Tables.{windows, documents, Tables, apply}
 use Rattle.tables.specs.Labels.{Label}
-use Rattle.wim.specs.Program.{answer, run}
+use Rattle.wim.specs.Program.{observed, run}
 use Rattle.wim.specs.Sending.{send}
 use Rattle.wim.specs.Script.{noData, sendingFrom, iframeIn, iframe}
 use Rattle.wim.specs.Step.{freshLabels}
@@ -66,7 +66,7 @@ module _ (b : State) (s : Scene) (url : Url) (f : Fresh) (r : Performed) where
   other-document : (x : WindowNumber) (c : Tables) (ls : List Label)
       → run (iframe (s .document) (first s) url (Within x)) c ls
       ≡ run (iframeIn (s .document) (first s) url (gotten (c windows) (c documents) (s .document) x)) c ls
-  unfolding run answer iframe
+  unfolding run observed iframe
   other-document x c ls = refl
 
   pub frame-in-other : (x : WindowNumber) (e : Document)

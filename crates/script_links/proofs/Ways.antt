@@ -23,7 +23,7 @@ use Rattle.tables.specs.Tables.{windows, documents, Tables}
 use Rattle.tables.specs.Labels.{Label}
 use Rattle.tables.specs.Rows.{originOf}
 use Rattle.wim.specs.Navigable.{mayNavigate}
-use Rattle.wim.specs.Program.{Program, answer, refused, run}
+use Rattle.wim.specs.Program.{Program, observed, refused, run}
 use Rattle.wim.specs.Script.{noData, openerUnless, sendingFrom, hrefPolicy, href, isFormMethod, formSending, form}
 use Rattle.wim.specs.Step.{freshLabels}
 use Rattle.wim.specs.View.{rowsOf}
@@ -36,7 +36,7 @@ use Rattle.script_navigation.specs.Navigation.{navigation, aimed, Navigates}
 -- WHERE THE PAGE GOES.
 pub aims : (w : WindowNumber) (d : Document) (b : Tables) (f : Fresh) (x : WindowNumber) (target : Target) (v : WindowNumber)
     → v ≡ cond (mayNavigate (b windows) (b documents) (originOf d) w x) x w → target ≡ Existing x → v ≡ aimed w d b f target
-unfolding answer
+unfolding observed
 aims w d b f x target v e g = e ∙ ap (aimed w d b f) (sym g)
 
 -- HREF AND FORM say what goes out, and FORM by which methods.

@@ -10,7 +10,7 @@ use Rattle.types.specs.declared.WindowNumber.{WindowNumber}
 use Rattle.types.specs.declared.refusals.Performed.{Performed}
 use Rattle.tables.specs.Tables.{windows, documents, cookies, localStorage, sessionStorage, inputs}
 use Rattle.wim.specs.Walks.{documentsOf, Removal, removal}
-use Rattle.wim.specs.Program.{Program, done, answer, navigated, made, run}
+use Rattle.wim.specs.Program.{Program, done, observed, navigated, made, run}
 use Rattle.wim.specs.Script.{getNavigableWindow, remove, withWindow, close, command}
 use Rattle.wim.specs.Step.{freshLabels}
 use Rattle.wim.specs.View.{rowsOf}
@@ -27,7 +27,7 @@ use Rattle.scene.specs.declared.Scene.{Scene}
 use Rattle.scene.specs.Stored.{first, stored}
 use Rattle.scene.proofs.Running.{stores-first, brings-first}
 
-module _ (s : Scene) (x : WindowNumber) (b : State) (f : Fresh) (r : Performed) (v : WindowNumber) (t : v ≡ answer (navigated (s .window) (s .document) x) (rowsOf b)) (d e : Draft) (begun : Holds [] (rowsOf b) d)
+module _ (s : Scene) (x : WindowNumber) (b : State) (f : Fresh) (r : Performed) (v : WindowNumber) (t : v ≡ observed (navigated (s .window) (s .document) x) (rowsOf b)) (d e : Draft) (begun : Holds [] (rowsOf b) d)
     (stores : Carries (stored s) (sessionStorage ∷ localStorage ∷ cookies ∷ []) (localStorage ∷ sessionStorage ∷ []) d e) where
   -- what the script stores stands in the draft
   kept : Holds (sessionStorage ∷ localStorage ∷ cookies ∷ []) (stored s (rowsOf b)) e
@@ -52,7 +52,7 @@ module _ (s : Scene) (x : WindowNumber) (b : State) (f : Fresh) (r : Performed) 
   closing gone = first s (remove gone (done none))
 
   close-runs : (gone : Removal) → gone ≡ goneWith v → run (command (s .window) (s .document) (first s) (Close x)) (rowsOf b) (freshLabels f) ≡ run (closing gone) (rowsOf b) (freshLabels f)
-  unfolding run answer command close
+  unfolding run observed command close
   close-runs gone g =
       ap (λ (u : WindowNumber). run (closing (goneWith u)) (rowsOf b) (freshLabels f)) (sym t)
       ∙ ap (λ (z : Removal). run (closing z) (rowsOf b) (freshLabels f)) (sym g)

@@ -9,7 +9,7 @@ use types::browser::Browser;
 use types::refusals::Performed;
 ghost use mathlib.Core.Path.{_≡_};
 ghost use Rattle.types.specs.declared.commands.Command.the-variants.{Back, Forward, Close};
-ghost use Rattle.wim.specs.Program.{answer, navigated};
+ghost use Rattle.wim.specs.Program.{observed, navigated};
 ghost use Rattle.wim.specs.Script.{getNavigableWindow, command};
 ghost use Rattle.wim.specs.View.{rowsOf};
 ghost use Rattle.performing.specs.Performs.{Performs};
@@ -18,7 +18,7 @@ ghost use Rattle.scene.specs.Stored.{first};
 
 // A1:9, 10
 fn target(b: Browser, s: Scene, x: WindowNumber) -> WindowNumber
-    ensures { λ r. ⌜ r ≡ answer (navigated (s .window) (s .document) x) (rowsOf b) ⌝ }
+    ensures { λ r. ⌜ r ≡ observed (navigated (s .window) (s .document) x) (rowsOf b) ⌝ }
 {
     let ws = b.windows;
     let ds = b.documents;

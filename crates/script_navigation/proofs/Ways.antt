@@ -14,7 +14,7 @@ use Rattle.types.specs.declared.rows.Window.{Window}
 use Rattle.sorted.specs.Table.{put}
 use Rattle.tables.specs.Tables.{windows, Tables, apply}
 use Rattle.tables.specs.Labels.{Label}
-use Rattle.wim.specs.Program.{answer, navigated, run}
+use Rattle.wim.specs.Program.{observed, navigated, run}
 use Rattle.wim.specs.Sending.{send}
 use Rattle.wim.specs.Script.{newTopWindow}
 use Rattle.wim.specs.Step.{freshLabels}
@@ -65,7 +65,7 @@ module _ (b : State) (s : Scene) (v : WindowNumber) (opener : Opener) (o : Sendi
   navigates-new p = record { performs = λ out e g. p .performs out (g ∙ ap out e) }
 
   looked-up : (out : WindowNumber → Sending) (x : WindowNumber) (c : Tables) (ls : List Label)
-      → run (navigation (s .window) (s .document) (first s) opener out (Existing x)) c ls ≡ run (intoExisting (first s) (answer (navigated (s .window) (s .document) x) c) (out (answer (navigated (s .window) (s .document) x) c))) c ls
+      → run (navigation (s .window) (s .document) (first s) opener out (Existing x)) c ls ≡ run (intoExisting (first s) (observed (navigated (s .window) (s .document) x) c) (out (observed (navigated (s .window) (s .document) x) c))) c ls
   unfolding run
   looked-up out x c ls = refl
 

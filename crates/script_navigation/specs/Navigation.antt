@@ -15,7 +15,7 @@ use Rattle.types.specs.declared.rows.Opener.{Opener}
 use Rattle.sorted.specs.Table.{put}
 use Rattle.tables.specs.Tables.{windows, Tables}
 use Rattle.tables.specs.Labels.{window}
-use Rattle.wim.specs.Program.{Program, edit, bring, navigated, answer, _>>=_, _>>_}
+use Rattle.wim.specs.Program.{Program, edit, bring, navigated, observed, _>>=_, _>>_}
 use Rattle.wim.specs.Sending.{cancelNav, send}
 use Rattle.wim.specs.Script.{getNavigableWindow, newTopWindow}
 use Rattle.wim.specs.View.{rowsOf}
@@ -51,7 +51,7 @@ navigation w d first opener out (Existing x) = do
 -- the window that the page goes into: the one that is brought, or the one that GETNAVIGABLEWINDOW gives
 abbrev pub aimed : WindowNumber → Document → Tables → Fresh → Target → WindowNumber
 aimed w d b f NewWindow = f .window
-aimed w d b f (Existing x) = answer (navigated w d x) b
+aimed w d b f (Existing x) = observed (navigated w d x) b
 
 -- with whatever is sent into a window, as long as this is sent into this one
 pub record Opens (b : State) (s : Scene) (opener : Opener) (o : Sending) (f : Fresh) (r : Performed) : Type 0 where

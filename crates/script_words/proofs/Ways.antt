@@ -7,7 +7,7 @@ use Rattle.types.specs.declared.rows.Document.{Document}
 use Rattle.tables.specs.Tables.{windows, documents, Tables, update}
 use Rattle.tables.specs.Labels.{Label}
 use Rattle.tables.specs.Rows.{changing}
-use Rattle.wim.specs.Program.{answer, revise, done, made, run}
+use Rattle.wim.specs.Program.{observed, revise, done, made, run}
 use Rattle.wim.specs.Script.{setting}
 use Rattle.scene.specs.declared.Scene.{Scene}
 use Rattle.scene.specs.Gotten.{gotten}
@@ -26,5 +26,5 @@ ran-revised s g w = refl
 pub sets : (s : Scene) (x : WindowNumber) (g : Document → Document) (e : Document) (w : Tables) (f : List Label)
     → e ≡ gotten (w windows) (w documents) (s .document) x
     → run (setting (s .document) (first s) x g) w f ≡ run (first s (revise documents (changing (e .number) g) (done none))) w f
-unfolding run setting answer
+unfolding run setting observed
 sets s x g e w f q = ap (λ (d : Document). run (first s (revise documents (changing (d .number) g) (done none))) w f) (sym q)

@@ -14,7 +14,7 @@ use Rattle.sorted.specs.Table.{keep}
 use Rattle.tables.specs.Tables.{cookies, Tables}
 use Rattle.tables.specs.Labels.{Label}
 use Rattle.tables.specs.Rows.{sameHost}
-use Rattle.wim.specs.Program.{answer, run}
+use Rattle.wim.specs.Program.{observed, run}
 use Rattle.wim.specs.Cookies.{cookieMerge}
 use Rattle.wim.specs.Script.{store, command, runScript}
 use Rattle.wim.specs.Step.{freshLabels}
@@ -38,7 +38,7 @@ pub acts : (s : Scene) (new : List Cookie) (b : State) (f : Fresh) (r : Performe
     → take (s .merged .count) (s .merged .rows) ≡ cookieMerge (keep (λ (c : HostCookie). sameHost (c .host) (s .document .location .host)) (rowsOf b cookies)) new (s .document .location .protocol)
     → Performs (command (s .window) (s .document) (first s) (s .output .command)) b f r
     → Performs (acting (s .window) (s .output) new (s .top) (s .document)) b f r
-unfolding run answer
+unfolding run observed
 acts s new b f r m a =
     performs-as (acting (s .window) (s .output) new (s .top) (s .document)) (command (s .window) (s .document) (first s) (s .output .command)) b f r
     (ap (λ (l : List Cookie). run (command (s .window) (s .document) (store (s .document) (s .top) l (s .output)) (s .output .command)) (rowsOf b) (freshLabels f)) (sym m)) a

@@ -20,7 +20,7 @@ use Rattle.tables.specs.Tables.{Table, cookies, pendingDNS, sts as strictHosts,
 use Rattle.tables.specs.Labels.{request, dns}
 use Rattle.tables.specs.Rows.{jar, pairOf, sameHost, goesOver}
 use Rattle.shapes.specs.Events.{Message, resolve, messageOf}
-use Rattle.wim.specs.Program.{answer, strict, cookiesFor, Outcome, refused, made, run}
+use Rattle.wim.specs.Program.{observed, strict, cookiesFor, Outcome, refused, made, run}
 use Rattle.wim.specs.Sending.{secured, questionOf, send}
 use Rattle.wim.specs.Step.{fits, fitted, concluded}
 use Rattle.wim.specs.View.{rowsOf}
@@ -31,10 +31,10 @@ use Rattle.sending.specs.Sends.{Sends}
 
 -- the address that goes out, and the question, in these tables
 abbrev pub urlFrom : Sending → Tables → Url
-urlFrom o w = cond (answer (strict (o .url .host)) w) (secured (o .url)) (o .url)
+urlFrom o w = cond (observed (strict (o .url .host)) w) (secured (o .url)) (o .url)
 
 abbrev pub questionFrom : Sending → ℕ → ℕ → Tables → Question
-questionFrom o q n w = questionOf o (urlFrom o w) (jar (map pairOf (answer (cookiesFor (o .url .host) (urlFrom o w .protocol)) w))) q n
+questionFrom o q n w = questionOf o (urlFrom o w) (jar (map pairOf (observed (cookiesFor (o .url .host) (urlFrom o w .protocol)) w))) q n
 
 ran : (o : Sending) (q n : ℕ) (w : Tables) → run (send o) w ((request, q) ∷ ((dns, n) ∷ [])) ≡ made (apply pendingDNS (put (questionFrom o q n w) ∷ []) w) (some (resolve (o .url .host) (record { 0 = n })))
 unfolding run send
@@ -72,7 +72,7 @@ pub question-is : (o : Sending) (q n : ℕ) (w : Tables) (sts : Bool) (url : Url
     → url ≡ cond sts (secured (o .url)) (o .url)
     → sts ≡ isSome (at (keyOf strictHosts) (cmp strictHosts) (o .url .host .0) (w strictHosts))
     → row ≡ questionFrom o q n w
-unfolding answer
+unfolding observed
 question-is o q n w sts url header row a b c d =
     let e : url ≡ urlFrom o w = c ∙ ap (λ (x : Bool). cond x (secured (o .url)) (o .url)) d in
     a ∙ ap (λ (h : Jar). questionOf o url h q n) b

@@ -21,7 +21,7 @@ use Rattle.tables.specs.Tables.{windows, documents, localStorage, sessionStorag
 use Rattle.tables.specs.Rows.{originOf}
 use Rattle.wim.specs.Nouns.{State, WindowNumber, Origin, Top, Document, Missing, Lacking, NoRoom, Closed, Accepted, Refused}
 use Rattle.wim.specs.Walks.{activeDocument, steps, reachedFrom}
-use Rattle.wim.specs.Program.{answer}
+use Rattle.wim.specs.Program.{observed}
 use Rattle.wim.specs.View.{rowsOf, view}
 use Rattle.wim.specs.Wire.{putInto}
 use Rattle.wim.specs.Shown.{inputsTerm, cookiesTerm, localTerm, sessionTerm, shownTo, Shown, hidden, shown, shownDocument, shownWindow, whatIsShown}
@@ -57,7 +57,7 @@ looksLike b (Lacks m) = hidden (Lacking m)
 looksLike b (Finds top d) = shown (shownTo b top d)
 
 look-like : (b : Tables) (w : WindowNumber) → looksLike b (shownAt w b) ≡ shownWindow b w (reachedFrom steps (b windows) (b documents) w)
-unfolding answer
+unfolding observed
 look-like b w = go (reachedFrom steps (b windows) (b documents) w)
   where
     by : (top : WindowNumber) (y : Option Document) → looksLike b (showing (some top) y) ≡ shownDocument b top y

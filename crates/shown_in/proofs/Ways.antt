@@ -9,14 +9,14 @@ use Rattle.types.specs.declared.rows.Document.{Document}
 use Rattle.tables.specs.Tables.{windows, documents, Tables}
 use Rattle.tables.specs.Labels.{Label}
 use Rattle.wim.specs.Walks.{activeDocument, steps, reachedFrom}
-use Rattle.wim.specs.Program.{Program, ask, answer, reached, active, needs, Outcome, refused, run, _>>=_, _>>_}
+use Rattle.wim.specs.Program.{Program, ask, observed, reached, active, needs, Outcome, refused, run, _>>=_, _>>_}
 use Rattle.shown_in.specs.declared.Shown.{Shown}
 use Rattle.shown_in.specs.declared.Shown.the-variants.{Lacks, Shows}
 use Rattle.shown_in.specs.Shown.{showing, shownAt}
 
 -- THE LOOK in code: two lookups.
 pub shown-is : (w : WindowNumber) (b : Tables) {top : Option WindowNumber} {d : Option Document} → top ≡ reachedFrom steps (b windows) (b documents) w → d ≡ activeDocument (b documents) w → showing top d ≡ shownAt w b
-unfolding answer
+unfolding observed
 shown-is w b e f = ap₂ showing e f
 
 -- A PROGRAM THAT BEGINS WITH IT. `shownIn w k` of the definitions is `looking w (λ top. k)`, and RUNSCRIPT begins so too.
@@ -38,14 +38,14 @@ module _ (w : WindowNumber) (k : WindowNumber → Document → Program) (b : Tab
   ran-document top none = refl
   ran-document top (some d) = refl
 
-  ran-window : (top : Option WindowNumber) → run (needs NoWindow top (λ t. ask (active w) (λ d. needs NoDocument d (k t)))) b f ≡ goesOn k b f (showing top (answer (active w) b))
+  ran-window : (top : Option WindowNumber) → run (needs NoWindow top (λ t. ask (active w) (λ d. needs NoDocument d (k t)))) b f ≡ goesOn k b f (showing top (observed (active w) b))
   unfolding run
   ran-window none = refl
-  ran-window (some top) = ran-document top (answer (active w) b)
+  ran-window (some top) = ran-document top (observed (active w) b)
 
   ran-look : run (looking w k) b f ≡ goesOn k b f (shownAt w b)
   unfolding run
-  ran-look = ran-window (answer (reached w) b)
+  ran-look = ran-window (observed (reached w) b)
 
   pub shown-goes : (s : Shown) → s ≡ shownAt w b → run (looking w k) b f ≡ goesOn k b f s
   shown-goes s e = ran-look ∙ ap (goesOn k b f) (sym e)

@@ -4,7 +4,7 @@ use Rattle.types.specs.declared.WindowNumber.{WindowNumber}
 use Rattle.types.specs.declared.refusals.Missing.the-variants.{NoWindow, NoDocument}
 use Rattle.types.specs.declared.rows.Document.{Document}
 use Rattle.tables.specs.Tables.{Tables}
-use Rattle.wim.specs.Program.{answer, reached, active}
+use Rattle.wim.specs.Program.{observed, reached, active}
 use Rattle.shown_in.specs.declared.Shown.{Shown}
 use Rattle.shown_in.specs.declared.Shown.the-variants.{Lacks, Shows}
 
@@ -15,4 +15,4 @@ showing (some top) none = Lacks NoDocument
 showing (some top) (some d) = Shows top d
 
 abbrev pub shownAt : WindowNumber → Tables → Shown
-shownAt w b = showing (answer (reached w) b) (answer (active w) b)
+shownAt w b = showing (observed (reached w) b) (observed (active w) b)

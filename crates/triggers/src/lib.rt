@@ -6,12 +6,12 @@ use types::WindowNumber;
 use types::browser::Browser;
 use types::refusals::Performed;
 use types::refusals::Refusal;
-ghost use Rattle.wim.specs.Main.{shownIn, forward, back};
+ghost use Rattle.wim.specs.Main.{displayed, forward, back};
 ghost use Rattle.performing.specs.Performs.{Performs};
 ghost use Rattle.history.specs.Directions.{nav};
 
 fn go(b: Browser, w: WindowNumber, q: Towards, f: Fresh) -> Performed
-    ensures { λ r. ⌜ Performs (shownIn w (λ d. nav q w (λ p. p))) b f r ⌝ }
+    ensures { λ r. ⌜ Performs (displayed w (λ d. nav q w (λ p. p))) b f r ⌝ }
 {
     let s = shown_in::shown_in(b, w);
     match s {

@@ -19,7 +19,7 @@ use Rattle.sorted.specs.Table.{put}
 use Rattle.tables.specs.Tables.{windows, documents, Tables, apply}
 use Rattle.tables.specs.Labels.{Label}
 use Rattle.wim.specs.Walks.{windowNumbered, activeDocument}
-use Rattle.wim.specs.Program.{Program, ask, answer, active, isTop, needs, refuseUnless, Outcome, refused, run}
+use Rattle.wim.specs.Program.{Program, ask, observed, active, isTop, needs, refuseUnless, Outcome, refused, run}
 use Rattle.wim.specs.Sending.{send}
 use Rattle.wim.specs.Script.{newTopWindow}
 use Rattle.wim.specs.Main.{sendingTo, urlbar}
@@ -61,11 +61,11 @@ module _ (url : Url) (w : WindowNumber) (b : Tables) (f : List Label) where
   existing true (some d) = run (send (sendingTo (Req w) url Unknown)) b f
 
   ran-existing : (top : Bool) (shown : Option Document) → shown ≡ activeDocument (b documents) w → run (refuseUnless top NoWindow (ask (active w) onward)) b f ≡ existing top shown
-  unfolding run answer
+  unfolding run observed
   ran-existing false shown e = refl
   ran-existing true none e = ap (λ (d : Option Document). run (onward d) b f) (sym e)
   ran-existing true (some d) e = ap (λ (d : Option Document). run (onward d) b f) (sym e)
 
   pub existing-runs : (top : Bool) (shown : Option Document) → top ≡ isTop (windowNumbered (b windows) w) → shown ≡ activeDocument (b documents) w → run (urlbar url (Existing w)) b f ≡ existing top shown
-  unfolding run answer urlbar
+  unfolding run observed urlbar
   existing-runs top shown e g = ap (λ (x : Bool). run (refuseUnless x NoWindow (ask (active w) onward)) b f) (sym e) ∙ ran-existing top shown g

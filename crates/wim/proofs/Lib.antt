@@ -5,4 +5,4 @@ pub mod Pigeon
 pub mod Walks
 pub mod Navigable
 pub mod Mask
-pub mod Shown
+pub mod NavigableMask

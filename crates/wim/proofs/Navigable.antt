@@ -11,7 +11,7 @@ use lib.ListN.{length}
 use Rattle.sorted.specs.Table.{In}
 use Rattle.wim.specs.Nouns.{WindowNumber, Origin, Window, Document, Opener, Nobody, OpenedBy}
 use Rattle.wim.specs.Walks.{activeDocument, hasOrigin, Above, missing, topmost, heldBy, above, climb, steps, topAbove, reachedFrom, isReached}
-use Rattle.wim.specs.Navigable.{ChildOf⁺, child, further, HasOrigin, openerOf, Navigable, same-origin, top-level, ancestor, opened, ancestorHas, isWindow, reachable, follows, mayNavigate}
+use Rattle.wim.specs.Navigable.{ChildOf⁺, child, further, HasOrigin, openerOf, Navigable, same-origin, top-level, ancestor, opened, ancestorHas, isWindow, navigableDirectly, follows, mayNavigate}
 use Rattle.sorted.proofs.Never.{never}
 use Rattle.sorted.proofs.Tests.{and-left, and-right, and-both, or-one, or-left, or-right}
 use Rattle.wim.proofs.Numbers.{same-window, window-same}
@@ -60,9 +60,9 @@ module _ (ws : List Window) (ds : List Document) (o : Origin) where
     is-window v none e = never (cc)
     is-window v (some t) e = ap {B = Option WindowNumber} some (sym (same-window v t e))
 
-    pub reachable-sound : (v : WindowNumber) → isReached ws ds v ≡ true → reachable ws ds o w v ≡ true → Navigable ws ds o w v
-    unfolding reachable
-    reachable-sound v r e = go (or-one (hasOrigin o (activeDocument ds v)) _ e)
+    pub directly-sound : (v : WindowNumber) → isReached ws ds v ≡ true → navigableDirectly ws ds o w v ≡ true → Navigable ws ds o w v
+    unfolding navigableDirectly
+    directly-sound v r e = go (or-one (hasOrigin o (activeDocument ds v)) _ e)
       where
         rest : (isWindow v (topAbove steps ws ds w) ≡ true) ⊎ (ancestorHas steps ws ds o v ≡ true) → Navigable ws ds o w v
         rest (inl h) = top-level r (is-window v (topAbove steps ws ds w) h)
@@ -72,17 +72,17 @@ module _ (ws : List Window) (ds : List Document) (o : Origin) where
         go (inl h) = same-origin r h
         go (inr h) = rest (or-one (isWindow v (topAbove steps ws ds w)) _ h)
 
-    same-reachable : (v : WindowNumber) → HasOrigin ds o v → reachable ws ds o w v ≡ true
-    unfolding reachable
-    same-reachable v h = or-left _ _ h
+    same-directly : (v : WindowNumber) → HasOrigin ds o v → navigableDirectly ws ds o w v ≡ true
+    unfolding navigableDirectly
+    same-directly v h = or-left _ _ h
 
-    top-reachable : (v : WindowNumber) → topAbove steps ws ds w ≡ some v → reachable ws ds o w v ≡ true
-    unfolding reachable
-    top-reachable v h = or-right (hasOrigin o (activeDocument ds v)) _ (or-left _ _ (ap (isWindow v) h ∙ window-same v))
+    top-directly : (v : WindowNumber) → topAbove steps ws ds w ≡ some v → navigableDirectly ws ds o w v ≡ true
+    unfolding navigableDirectly
+    top-directly v h = or-right (hasOrigin o (activeDocument ds v)) _ (or-left _ _ (ap (isWindow v) h ∙ window-same v))
 
-    ancestor-reachable : (v p : WindowNumber) → isReached ws ds v ≡ true → ChildOf⁺ ws ds v p → HasOrigin ds o p → reachable ws ds o w v ≡ true
-    unfolding reachable
-    ancestor-reachable v p r c h =
+    ancestor-directly : (v p : WindowNumber) → isReached ws ds v ≡ true → ChildOf⁺ ws ds v p → HasOrigin ds o p → navigableDirectly ws ds o w v ≡ true
+    unfolding navigableDirectly
+    ancestor-directly v p r c h =
         let z = reached-from ws ds v r in
         or-right (hasOrigin o (activeDocument ds v)) _ (or-right (isWindow v (topAbove steps ws ds w)) _ (ancestor-complete v p c h steps (z .0) (z .1)))
 
@@ -95,42 +95,42 @@ module _ (ws : List Window) (ds : List Document) (o : Origin) where
     pub follows-sound : (n : ℕ) (v : WindowNumber) → follows n ws ds o w v ≡ true → Navigable ws ds o w v
     unfolding follows
     follows-sound zero v e = never (cc)
-    follows-sound (suc n) v e = go (or-one (reachable ws ds o w v) _ (and-right (isReached ws ds v) _ e)) (follows-sound n)
+    follows-sound (suc n) v e = go (or-one (navigableDirectly ws ds o w v) _ (and-right (isReached ws ds v) _ e)) (follows-sound n)
       where
         r : isReached ws ds v ≡ true
         r = and-left (isReached ws ds v) _ e
 
-        go : (reachable ws ds o w v ≡ true) ⊎ (byOpener (follows n ws ds o w) (openerOf ws v) ≡ true) → ((x : WindowNumber) → follows n ws ds o w x ≡ true → Navigable ws ds o w x) → Navigable ws ds o w v
-        go (inl h) ih = reachable-sound v r h
+        go : (navigableDirectly ws ds o w v ≡ true) ⊎ (byOpener (follows n ws ds o w) (openerOf ws v) ≡ true) → ((x : WindowNumber) → follows n ws ds o w x ≡ true → Navigable ws ds o w x) → Navigable ws ds o w v
+        go (inl h) ih = directly-sound v r h
         go (inr h) ih = let z = by-opener (follows n ws ds o w) (openerOf ws v) h in opened r (z .1) (follows-reached n (z .0) (z .2)) (ih (z .0) (z .2))
 
-    pub follows-step : (n : ℕ) (v : WindowNumber) → follows (suc n) ws ds o w v ≡ (isReached ws ds v && (reachable ws ds o w v || byOpener (follows n ws ds o w) (openerOf ws v)))
+    pub follows-step : (n : ℕ) (v : WindowNumber) → follows (suc n) ws ds o w v ≡ (isReached ws ds v && (navigableDirectly ws ds o w v || byOpener (follows n ws ds o w) (openerOf ws v)))
     unfolding follows
     follows-step n v = refl
 
     -- what is within the set is found by following openers some number of times
-    follows-base : (v : WindowNumber) → isReached ws ds v ≡ true → reachable ws ds o w v ≡ true → follows 1 ws ds o w v ≡ true
+    follows-base : (v : WindowNumber) → isReached ws ds v ≡ true → navigableDirectly ws ds o w v ≡ true → follows 1 ws ds o w v ≡ true
     follows-base v r h = follows-step 0 v ∙ and-both (isReached ws ds v) _ r (or-left _ _ h)
 
     follows-opened : (n : ℕ) (v p : WindowNumber) → isReached ws ds v ≡ true → openerOf ws v ≡ OpenedBy p → follows n ws ds o w p ≡ true → follows (suc n) ws ds o w v ≡ true
-    follows-opened n v p r e h = follows-step n v ∙ and-both (isReached ws ds v) _ r (or-right (reachable ws ds o w v) _ (ap (byOpener (follows n ws ds o w)) e ∙ h))
+    follows-opened n v p r e h = follows-step n v ∙ and-both (isReached ws ds v) _ r (or-right (navigableDirectly ws ds o w v) _ (ap (byOpener (follows n ws ds o w)) e ∙ h))
 
     some-follows : (v : WindowNumber) → Navigable ws ds o w v → (n : ℕ) × (follows n ws ds o w v ≡ true)
-    some-follows v (same-origin r h) = (1, follows-base v r (same-reachable v h))
-    some-follows v (top-level r h) = (1, follows-base v r (top-reachable v h))
-    some-follows v (ancestor {p = p} r c h) = (1, follows-base v r (ancestor-reachable v p r c h))
+    some-follows v (same-origin r h) = (1, follows-base v r (same-directly v h))
+    some-follows v (top-level r h) = (1, follows-base v r (top-directly v h))
+    some-follows v (ancestor {p = p} r c h) = (1, follows-base v r (ancestor-directly v p r c h))
     some-follows v (opened {p = p} r e q c) = let z = some-follows p c in (suc (z .0), follows-opened (z .0) v p r e (z .1))
 
     -- OPENERS NEED NOT BE FOLLOWED MORE OFTEN THAN THERE ARE ROWS.
     pub follows-next : (n : ℕ) (v : WindowNumber) → follows n ws ds o w v ≡ true → follows (suc n) ws ds o w v ≡ true
     unfolding follows
     follows-next zero v e = never (cc)
-    follows-next (suc n) v e = go (or-one (reachable ws ds o w v) _ (and-right (isReached ws ds v) _ e)) (follows-next n)
+    follows-next (suc n) v e = go (or-one (navigableDirectly ws ds o w v) _ (and-right (isReached ws ds v) _ e)) (follows-next n)
       where
         r : isReached ws ds v ≡ true
         r = and-left (isReached ws ds v) _ e
 
-        go : (reachable ws ds o w v ≡ true) ⊎ (byOpener (follows n ws ds o w) (openerOf ws v) ≡ true)
+        go : (navigableDirectly ws ds o w v ≡ true) ⊎ (byOpener (follows n ws ds o w) (openerOf ws v) ≡ true)
             → ((x : WindowNumber) → follows n ws ds o w x ≡ true → follows (suc n) ws ds o w x ≡ true) → follows (suc (suc n)) ws ds o w v ≡ true
         go (inl h) ih = and-both (isReached ws ds v) _ r (or-left _ _ h)
         go (inr h) ih = let z = by-opener (follows n ws ds o w) (openerOf ws v) h in follows-opened (suc n) v (z .0) r (z .1) (ih (z .0) (z .2))
@@ -156,7 +156,7 @@ module _ (ws : List Window) (ds : List Document) (o : Origin) where
     -- the opener of such a window is found by one step less
     far-opener : (n : ℕ) (v : WindowNumber) → Far (suc n) v → (p : WindowNumber) × Far n p
     unfolding follows
-    far-opener n v h = go (or-one (reachable ws ds o w v) _ (and-right (isReached ws ds v) _ (h .1)))
+    far-opener n v h = go (or-one (navigableDirectly ws ds o w v) _ (and-right (isReached ws ds v) _ (h .1)))
       where
         r : isReached ws ds v ≡ true
         r = and-left (isReached ws ds v) _ (h .1)
@@ -165,7 +165,7 @@ module _ (ws : List Window) (ds : List Document) (o : Origin) where
         near p e true f = let z : follows (suc n) ws ds o w v ≡ true = follows-opened n v p r e f in let y : follows (suc n) ws ds o w v ≡ false = h .0 in never (cc)
         near p e false f = refl
 
-        go : (reachable ws ds o w v ≡ true) ⊎ (byOpener (follows (suc n) ws ds o w) (openerOf ws v) ≡ true) → (p : WindowNumber) × Far n p
+        go : (navigableDirectly ws ds o w v ≡ true) ⊎ (byOpener (follows (suc n) ws ds o w) (openerOf ws v) ≡ true) → (p : WindowNumber) × Far n p
         go (inl c) = let z : follows (suc n) ws ds o w v ≡ true = and-both (isReached ws ds v) _ r (or-left _ _ c) in let y : follows (suc n) ws ds o w v ≡ false = h .0 in never (cc)
         go (inr c) = let z = by-opener (follows (suc n) ws ds o w) (openerOf ws v) c in (z .0, (near (z .0) (z .1) (follows n ws ds o w (z .0)) refl, z .2))
 

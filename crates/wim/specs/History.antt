@@ -13,11 +13,11 @@ use Rattle.wim.specs.Program.{Program, ask, revise, refuse, done, histor
 use Rattle.wim.specs.Sending.{cancelNav}
 
 -- the document before, and the document after another in its history
-abbrev pub before : List Document → Document → Option Document
-before ds d = find (λ (e : Document). eqb (suc (e .place)) (d .place)) ds
+abbrev pub documentBefore : List Document → Document → Option Document
+documentBefore ds d = find (λ (e : Document). eqb (suc (e .place)) (d .place)) ds
 
-abbrev pub after : List Document → Document → Option Document
-after ds d = find (λ (e : Document). eqb (e .place) (suc (d .place))) ds
+abbrev pub documentAfter : List Document → Document → Option Document
+documentAfter ds d = find (λ (e : Document). eqb (e .place) (suc (d .place))) ds
 
 abbrev pub neighbour : (List Document → Document → Option Document) → List Document → Option Document → Option Document
 neighbour towards ds none = none
@@ -40,10 +40,10 @@ moved w first ds (some e) = do
 unfoldable pub navBack : WindowNumber → (Program → Program) → Program
 navBack w first = do
   ds ← ask (history w)
-  moved w first ds (neighbour before ds (activeAmong ds))
+  moved w first ds (neighbour documentBefore ds (activeAmong ds))
 
 -- ALGORITHM 6, NAVFORWARD(w', s').
 unfoldable pub navForward : WindowNumber → (Program → Program) → Program
 navForward w first = do
   ds ← ask (history w)
-  moved w first ds (neighbour after ds (activeAmong ds))
+  moved w first ds (neighbour documentAfter ds (activeAmong ds))

@@ -39,6 +39,6 @@ pub record Sound (b : Tables) : Type 0 where
   pub rooted : Rooted b
 
 -- the tables that accepted steps have made from empty ones
-pub data Reachable : Tables → Type 0 where
-  untouched : Reachable noRows
-  stepped : {b c : Tables} (i : Item) (m : Option Message) → Reachable b → stepTables i b ≡ made c m → Reachable c
+pub data MadeTables : Tables → Type 0 where
+  untouched : MadeTables noRows
+  stepped : {b c : Tables} (i : Item) (m : Option Message) → MadeTables b → stepTables i b ≡ made c m → MadeTables c

@@ -12,7 +12,7 @@ pub mod Main
 pub mod Step
 pub mod View
 pub mod Shown
-pub mod Local
+pub mod LocalSteps
 pub mod Invariant
 pub mod Wire
 pub mod Run

@@ -42,8 +42,8 @@ urlbar url (Existing w) = do
   send (sendingTo (Req w) url Unknown)  -- 21, 28, 29
 
 -- 31, 38, 41: "w ← Subwindows(s') such that s'.w.documents ≠ ⟨⟩ if possible; otherwise stop"
-abbrev pub shownIn : WindowNumber → (Document → Program) → Program
-shownIn w k = do
+abbrev pub displayed : WindowNumber → (Document → Program) → Program
+displayed w k = do
   found ← ask (reached w)
   top ← needs NoWindow found
   shown ← ask (active w)
@@ -52,19 +52,19 @@ shownIn w k = do
 -- 30 to 36: reload
 unfoldable pub reload : WindowNumber → Program
 reload w = do
-  d ← shownIn w  -- 31
+  d ← displayed w  -- 31
   cancelNav (Bare w)  -- 35
   send (sendingTo (Req w) (d .location) (d .referrer))  -- 32 to 34, 36
 
 -- 37 to 42: forward, back
 unfoldable pub forward : WindowNumber → Program
 forward w = do
-  d ← shownIn w  -- 38
+  d ← displayed w  -- 38
   navForward w (λ p. p)  -- 39
 
 unfoldable pub back : WindowNumber → Program
 back w = do
-  d ← shownIn w  -- 41
+  d ← displayed w  -- 41
   navBack w (λ p. p)  -- 42
 
 -- 46 to 54: CLOSECORRUPT. That the browser is closed then (53) is told by `step`.

@@ -49,15 +49,15 @@ isWindow v none = false
 isWindow v (some w) = sameWindow v w
 
 -- the first three rules
-unfoldable pub reachable : List Window → List Document → Origin → WindowNumber → WindowNumber → Bool
-reachable ws ds o w v = hasOrigin o (activeDocument ds v) || (isWindow v (topAbove steps ws ds w) || ancestorHas steps ws ds o v)
+unfoldable pub navigableDirectly : List Window → List Document → Origin → WindowNumber → WindowNumber → Bool
+navigableDirectly ws ds o w v = hasOrigin o (activeDocument ds v) || (isWindow v (topAbove steps ws ds w) || ancestorHas steps ws ds o v)
 
 -- all four: openers are followed at most as often as there are windows
 unfoldable pub follows : ℕ → List Window → List Document → Origin → WindowNumber → WindowNumber → Bool
 follows zero ws ds o w v = false
 follows (suc n) ws ds o w v =
     let opener = elim (openerOf ws v) as (λ _. Bool) [ Nobody ↦ false | OpenedBy p ↦ follows n ws ds o w p ] in
-    isReached ws ds v && (reachable ws ds o w v || opener)
+    isReached ws ds v && (navigableDirectly ws ds o w v || opener)
 
 abbrev pub mayNavigate : List Window → List Document → Origin → WindowNumber → WindowNumber → Bool
 mayNavigate ws ds o w v = follows (suc (length ws)) ws ds o w v
@@ -68,13 +68,13 @@ maskOf p [] = 0
 maskOf p (r ∷ rs) = bit (p (r .number)) + 2 * maskOf p rs
 
 -- "The set of an unreached window" and of one without a document "is 0".
-abbrev pub whenShown : Bool → Option Document → (Origin → ℕ) → ℕ
-whenShown false d f = 0
-whenShown true none f = 0
-whenShown true (some d) f = f (originOf d)
+abbrev pub whenDisplayed : Bool → Option Document → (Origin → ℕ) → ℕ
+whenDisplayed false d f = 0
+whenDisplayed true none f = 0
+whenDisplayed true (some d) f = f (originOf d)
 
 unfoldable pub navigableMask : List Window → List Document → WindowNumber → ℕ
-navigableMask ws ds w = whenShown (isReached ws ds w) (activeDocument ds w) (λ o. maskOf (mayNavigate ws ds o w) ws)
+navigableMask ws ds w = whenDisplayed (isReached ws ds w) (activeDocument ds w) (λ o. maskOf (mayNavigate ws ds o w) ws)
 
 unfoldable pub navigableSize : List Window → List Document → WindowNumber → ℕ
-navigableSize ws ds w = whenShown (isReached ws ds w) (activeDocument ds w) (λ o. length (keep (λ (r : Window). mayNavigate ws ds o w (r .number)) ws))
+navigableSize ws ds w = whenDisplayed (isReached ws ds w) (activeDocument ds w) (λ o. length (keep (λ (r : Window). mayNavigate ws ds o w (r .number)) ws))

@@ -33,22 +33,22 @@ pub data Query : Type 0 where
   keyless : RequestNumber → Query  -- the waiting keyless request with a number
   keyed : KeyNumber → Query  -- the waiting request with a key
 
-abbrev pub Answer : Query → Type 0
-Answer (reached w) = Option WindowNumber
-Answer (topLevel w) = Bool
-Answer (active w) = Option Document
-Answer (history w) = List Document
-Answer (navigated w d v) = WindowNumber
-Answer (ofOrigin d v) = Option Document
-Answer (listening n) = Option Document
-Answer (arrived n) = ℕ
-Answer (under gone) = Removal
-Answer (strict h) = Bool
-Answer (cookiesOf h) = List HostCookie
-Answer (cookiesFor h p) = List HostCookie
-Answer (question n) = Option Question
-Answer (keyless n) = Option Waiting
-Answer (keyed k) = Option Waiting
+abbrev pub Observed : Query → Type 0
+Observed (reached w) = Option WindowNumber
+Observed (topLevel w) = Bool
+Observed (active w) = Option Document
+Observed (history w) = List Document
+Observed (navigated w d v) = WindowNumber
+Observed (ofOrigin d v) = Option Document
+Observed (listening n) = Option Document
+Observed (arrived n) = ℕ
+Observed (under gone) = Removal
+Observed (strict h) = Bool
+Observed (cookiesOf h) = List HostCookie
+Observed (cookiesFor h p) = List HostCookie
+Observed (question n) = Option Question
+Observed (keyless n) = Option Waiting
+Observed (keyed k) = Option Waiting
 
 abbrev pub isTop : Option Window → Bool
 isTop none = false
@@ -66,26 +66,26 @@ abbrev pub listens : List Window → List Document → Option Document → Optio
 listens ws ds none = none
 listens ws ds (some d) = when (d .active && isReached ws ds (d .window)) (some d)
 
-unfoldable pub answer : (q : Query) → Tables → Answer q
-answer (reached w) b = reachedFrom steps (b windows) (b documents) w
-answer (topLevel w) b = isTop (windowNumbered (b windows) w)
-answer (active w) b = activeDocument (b documents) w
-answer (history w) b = documentsOf (b documents) w
-answer (navigated w d v) b = cond (mayNavigate (b windows) (b documents) (originOf d) w v) v w
-answer (ofOrigin d v) b = when (isReached (b windows) (b documents) v) (withOrigin d (activeDocument (b documents) v))
-answer (listening n) b = listens (b windows) (b documents) (documentNumbered (b documents) n)
-answer (arrived n) b = length (keep (λ (i : Input). sameDocument (i .document) n) (b inputs))
-answer (under gone) b = removal (b windows) (b documents) gone
-answer (strict h) b = isSome (at (keyOf sts) (cmp sts) (h .0) (b sts))
-answer (cookiesOf h) b = keep (λ (r : HostCookie). sameHost (r .host) h) (b cookies)
-answer (cookiesFor h p) b = keep (λ (r : HostCookie). sameHost (r .host) h && goesOver p (r .cookie)) (b cookies)
-answer (question n) b = at (keyOf pendingDNS) (cmp pendingDNS) (n .0) (b pendingDNS)
-answer (keyless n) b = find (λ (r : Waiting). eqb (r .request .number .0) (n .0) && hasNoKey (r .seal)) (b pendingRequests)
-answer (keyed k) b = find (λ (r : Waiting). hasKey k (r .seal)) (b pendingRequests)
+unfoldable pub observed : (q : Query) → Tables → Observed q
+observed (reached w) b = reachedFrom steps (b windows) (b documents) w
+observed (topLevel w) b = isTop (windowNumbered (b windows) w)
+observed (active w) b = activeDocument (b documents) w
+observed (history w) b = documentsOf (b documents) w
+observed (navigated w d v) b = cond (mayNavigate (b windows) (b documents) (originOf d) w v) v w
+observed (ofOrigin d v) b = when (isReached (b windows) (b documents) v) (withOrigin d (activeDocument (b documents) v))
+observed (listening n) b = listens (b windows) (b documents) (documentNumbered (b documents) n)
+observed (arrived n) b = length (keep (λ (i : Input). sameDocument (i .document) n) (b inputs))
+observed (under gone) b = removal (b windows) (b documents) gone
+observed (strict h) b = isSome (at (keyOf sts) (cmp sts) (h .0) (b sts))
+observed (cookiesOf h) b = keep (λ (r : HostCookie). sameHost (r .host) h) (b cookies)
+observed (cookiesFor h p) b = keep (λ (r : HostCookie). sameHost (r .host) h && goesOver p (r .cookie)) (b cookies)
+observed (question n) b = at (keyOf pendingDNS) (cmp pendingDNS) (n .0) (b pendingDNS)
+observed (keyless n) b = find (λ (r : Waiting). eqb (r .request .number .0) (n .0) && hasNoKey (r .seal)) (b pendingRequests)
+observed (keyed k) b = find (λ (r : Waiting). hasKey k (r .seal)) (b pendingRequests)
 
 -- PROGRAMS.
 pub data Program : Type 0 where
-  ask : (q : Query) → (Answer q → Program) → Program
+  ask : (q : Query) → (Observed q → Program) → Program
   edit : (t : Table) → Edits t → Program → Program
   revise : (t : Table) → (Row t → Row t) → Program → Program
   bring : Kind → (ℕ → Program) → Program
@@ -119,7 +119,7 @@ pub data Outcome : Type 0 where
 
 -- The fresh numbers are taken one by one; one too few, too many or of another label is refusal 5.
 unfoldable pub run : Program → Tables → List Label → Outcome
-run (ask q k) b f = run (k (answer q b)) b f
+run (ask q k) b f = run (k (observed q b)) b f
 run (edit t es p) b f = run p (apply t es b) f
 run (revise t g p) b f = run p (update t (map g) b) f
 run (bring κ k) b [] = refused NotFresh

@@ -11,7 +11,7 @@ use Rattle.types.specs.declared.rows.News.the-variants.{Answered}
 use Rattle.types.specs.declared.rows.Waiting.{Waiting}
 use Rattle.sorted.specs.Table.{put}
 use Rattle.tables.specs.Tables.{inputs, Tables, apply}
-use Rattle.wim.specs.Program.{answer, made, run}
+use Rattle.wim.specs.Program.{observed, made, run}
 use Rattle.wim.specs.Response.{answerScript}
 use Rattle.fresh.specs.Brings.{Brings}
 use Rattle.headers.specs.Acted.{acted}
@@ -23,7 +23,7 @@ module _ (w : Waiting) (a : Answer) (new : List Cookie) (matching : Matching) wh
   brings-filed d = λ before. tt
 
   ran-filed : (d : Document) (b : Tables) → run (answerScript w a new matching none (some d)) b [] ≡ made (apply inputs (put (nextInput (d .number) (Answered matching (a .body)) (b inputs)) ∷ []) (acted w a new b)) none
-  unfolding run answer answerScript
+  unfolding run observed answerScript
   ran-filed d b = refl
 
   pub files : (d : Document) (b : Tables) (row : Input) → row ≡ nextInput (d .number) (Answered matching (a .body)) (b inputs)

@@ -3,7 +3,7 @@ use mathlib.Core.Option.{none, some}
 use lib.ListN.{take}
 use Rattle.types.specs.declared.refusals.Missing.the-variants.{NoRequest}
 use Rattle.types.specs.declared.refusals.Refusal.the-variants.{Lacking}
-use Rattle.wim.specs.Program.{ask, keyless, answer, run}
+use Rattle.wim.specs.Program.{ask, keyless, observed, run}
 use Rattle.wim.specs.Step.{freshLabels}
 use Rattle.wim.specs.Main.{plainAnswer}
 use Rattle.wim.specs.View.{rowsOf}
@@ -13,23 +13,23 @@ use Rattle.answers.proofs.plain_answer.Statement.{statement}
 use Rattle.answers.proofs.plain_answer.Tie as tie
 
 returns : tie.Need-returns
-unfolding answer plainAnswer
+unfolding observed plainAnswer
 returns c =
     let x = c .before .before .before .before .before .before .args in
     let k = plainAnswer (x .a) (take (x .few .count) (x .few .rows)) in
     let found = c .before .before .before .first .result in
     performs-as (ask (keyless (x .a .number)) k) (k (some (found .row))) (x .b) (x .f) _
-    (asked (keyless (x .a .number)) k (rowsOf (x .b)) (freshLabels (x .f)) (some (found .row)) (looked-yes (found .found) (found .row) {o = answer (keyless (x .a .number)) (rowsOf (x .b))} (c .before .before .before .first .ensures) (c .before .before .if1 .taken)))
+    (asked (keyless (x .a .number)) k (rowsOf (x .b)) (freshLabels (x .f)) (some (found .row)) (looked-yes (found .found) (found .row) {o = observed (keyless (x .a .number)) (rowsOf (x .b))} (c .before .before .before .first .ensures) (c .before .before .if1 .taken)))
     (c .process-response .ensures)
 
 returns-2 : tie.Need-returns-2
-unfolding answer run plainAnswer
+unfolding observed run plainAnswer
 returns-2 c =
     let x = c .before .before .before .before .before .args in
     let k = plainAnswer (x .a) (take (x .few .count) (x .few .rows)) in
     let found = c .before .before .first .result in
     refuses (ask (keyless (x .a .number)) k) (x .b) (x .f) _ (Lacking NoRequest)
-    (asked (keyless (x .a .number)) k (rowsOf (x .b)) (freshLabels (x .f)) none (looked-no (found .found) (found .row) {o = answer (keyless (x .a .number)) (rowsOf (x .b))} (c .before .before .first .ensures) (c .before .if1 .left)))
+    (asked (keyless (x .a .number)) k (rowsOf (x .b)) (freshLabels (x .f)) none (looked-no (found .found) (found .row) {o = observed (keyless (x .a .number)) (rowsOf (x .b))} (c .before .before .first .ensures) (c .before .if1 .left)))
     (c .refuse .ensures)
 
 pub plain-answer-spec : {M : Type 1} → statement M

@@ -1,7 +1,7 @@
 -- The bits of the number are counted.
 use mathlib.Core.Path.{_∙_, ap}
 use lib.Count.{ones}
-use Rattle.wim.proofs.Shown.{navigable-ones}
+use Rattle.wim.proofs.NavigableMask.{navigable-ones}
 use Rattle.navigable.proofs.navigable_size.Statement.{statement}
 use Rattle.navigable.proofs.navigable_size.Tie as tie
 

@@ -11,7 +11,7 @@ use Rattle.sorted.specs.Table.{find, keep}
 use Rattle.wim.specs.Nouns.{WindowNumber, Window, Document}
 use Rattle.tables.specs.Rows.{originOf}
 use Rattle.wim.specs.Walks.{activeDocument, isReached}
-use Rattle.wim.specs.Navigable.{Navigable, mayNavigate, maskOf, whenShown, navigableMask, navigableSize}
+use Rattle.wim.specs.Navigable.{Navigable, mayNavigate, maskOf, whenDisplayed, navigableMask, navigableSize}
 use Rattle.sorted.proofs.Never.{never}
 use Rattle.wim.proofs.Navigable.{navigable-sound, navigable-complete}
 use Rattle.wim.proofs.Mask.{mask-bit, mask-ones, mask-first}
@@ -27,19 +27,19 @@ module _ (ws : List Window) (ds : List Document) (w : WindowNumber) where
   navigable-ones = go (isReached ws ds w) (activeDocument ds w)
     where
       go : (b : Bool) (a : Option Document)
-          → ones (whenShown b a (λ o. maskOf (mayNavigate ws ds o w) ws)) ≡ whenShown b a (λ o. length (keep (λ (r : Window). mayNavigate ws ds o w (r .number)) ws))
+          → ones (whenDisplayed b a (λ o. maskOf (mayNavigate ws ds o w) ws)) ≡ whenDisplayed b a (λ o. length (keep (λ (r : Window). mayNavigate ws ds o w (r .number)) ws))
       go false a = refl
       go true none = refl
       go true (some d) = mask-ones (mayNavigate ws ds (originOf d) w) ws
 
   -- THE SET OF A REACHED WINDOW WITH A DOCUMENT.
   module _ (d : Document) (r : isReached ws ds w ≡ true) (a : activeDocument ds w ≡ some d) where
-    pub shown-mask : navigableMask ws ds w ≡ maskOf (mayNavigate ws ds (originOf d) w) ws
+    pub displayed-mask : navigableMask ws ds w ≡ maskOf (mayNavigate ws ds (originOf d) w) ws
     unfolding navigableMask
-    shown-mask = rw (r, a)
+    displayed-mask = rw (r, a)
 
     pub navigable-bit : (i : ℕ) (x : Window) → i < length ws → navigableMask ws ds w / 2 ^ i % 2 ≡ bit (mayNavigate ws ds (originOf d) w (getD ws i x .number))
-    navigable-bit i x h = ap (λ (m : ℕ). m / 2 ^ i % 2) shown-mask ∙ mask-bit (mayNavigate ws ds (originOf d) w) ws i x h
+    navigable-bit i x h = ap (λ (m : ℕ). m / 2 ^ i % 2) displayed-mask ∙ mask-bit (mayNavigate ws ds (originOf d) w) ws i x h
 
     -- bit i is set exactly where the window of row i may be navigated
     pub bit-sound : (i : ℕ) (x : Window) → i < length ws → navigableMask ws ds w / 2 ^ i % 2 ≡ 1 → Navigable ws ds (originOf d) w (getD ws i x .number)
@@ -52,7 +52,7 @@ module _ (ws : List Window) (ds : List Document) (w : WindowNumber) where
     pub navigable-first : (k : ℕ) → length ws ≤ k → zero < navigableMask ws ds w
         → (trailingZeros k (navigableMask ws ds w) < length ws)
         × ((x : Window) → find (λ (r : Window). mayNavigate ws ds (originOf d) w (r .number)) ws ≡ some (getD ws (trailingZeros k (navigableMask ws ds w)) x))
-    navigable-first k l n = rw shown-mask (mask-first (mayNavigate ws ds (originOf d) w) ws k l (rw shown-mask at n))
+    navigable-first k l n = rw displayed-mask (mask-first (mayNavigate ws ds (originOf d) w) ws k l (rw displayed-mask at n))
 
   -- "The set of an unreached window" and of one without a document "is 0".
   pub unreached-none : isReached ws ds w ≡ false → navigableMask ws ds w ≡ 0
@@ -63,7 +63,7 @@ module _ (ws : List Window) (ds : List Document) (w : WindowNumber) where
   unfolding navigableMask
   undocumented-none e = go (isReached ws ds w) (activeDocument ds w) e
     where
-      go : (b : Bool) (a : Option Document) → a ≡ none → whenShown b a (λ o. maskOf (mayNavigate ws ds o w) ws) ≡ 0
+      go : (b : Bool) (a : Option Document) → a ≡ none → whenDisplayed b a (λ o. maskOf (mayNavigate ws ds o w) ws) ≡ 0
       go false a e = refl
       go true none e = refl
       go true (some d) e = never (cc)

@@ -8,7 +8,7 @@ use Rattle.tables.specs.Labels.{Kind, window, request, dns, key, document, host
 use Rattle.tables.specs.Rows.{sameWindow}
 use Rattle.wim.specs.Nouns.{WindowNumber, Host, Url, Reference, Req, Xhr, Target, NewWindow, Existing, Holder, Itself, Within, Command, Nothing, Href, Iframe, Form, SetScript, SetScriptState, XmlHttpRequest, Back, Forward, Close, PostMessage, Answer, Event, RunScript, Urlbar, Reload, GoForward, GoBack, CloseCorrupt, EncryptedAnswer, PlainAnswer, DnsResolved, Document, Question, Waiting}
 use Rattle.wim.specs.Walks.{documentNumbered, steps, topAbove}
-use Rattle.wim.specs.Program.{active, question, keyless, keyed, answer}
+use Rattle.wim.specs.Program.{active, question, keyless, keyed, observed}
 use Rattle.wim.specs.Response.{whereTo}
 
 -- "HREF, FORM or IFRAME that gives the number of the script's own window"
@@ -68,9 +68,9 @@ home (Reload w) b = some (window, w .0)
 home (GoForward w) b = some (window, w .0)
 home (GoBack w) b = some (window, w .0)
 home CloseCorrupt b = none
-home (EncryptedAnswer k a) b = awaited (answer (keyed k) b)
-home (PlainAnswer a) b = awaited (answer (keyless (a .number)) b)
-home (DnsResolved a) b = asked (answer (question (a .number)) b)
+home (EncryptedAnswer k a) b = awaited (observed (keyed k) b)
+home (PlainAnswer a) b = awaited (observed (keyless (a .number)) b)
+home (DnsResolved a) b = asked (observed (question (a .number)) b)
 
 -- the top-level window above a window or a document; "inactive documents count on the way up"; none "where that window or document has no row"
 abbrev pub topOfDocument : Tables → Option Document → Option WindowNumber
@@ -127,15 +127,15 @@ answerHosts a none = []
 answerHosts a (some w) = w .request .host ∷ redirectHost a (w .reference)
 
 unfoldable pub hosts : Event → Tables → List Host
-hosts (RunScript w out) b = documentHost (answer (active w) b) ++ commandHosts (out .command)
+hosts (RunScript w out) b = documentHost (observed (active w) b) ++ commandHosts (out .command)
 hosts (Urlbar target url) b = url .host ∷ []
-hosts (Reload w) b = documentHost (answer (active w) b)
+hosts (Reload w) b = documentHost (observed (active w) b)
 hosts (GoForward w) b = []
 hosts (GoBack w) b = []
 hosts CloseCorrupt b = []
-hosts (EncryptedAnswer k a) b = answerHosts a (answer (keyed k) b)
-hosts (PlainAnswer a) b = answerHosts a (answer (keyless (a .number)) b)
-hosts (DnsResolved a) b = questionHost (answer (question (a .number)) b)
+hosts (EncryptedAnswer k a) b = answerHosts a (observed (keyed k) b)
+hosts (PlainAnswer a) b = answerHosts a (observed (keyless (a .number)) b)
+hosts (DnsResolved a) b = questionHost (observed (question (a .number)) b)
 
 -- the numbers that an item names, besides those that it brings
 abbrev pub targetNames : Target → List Label
