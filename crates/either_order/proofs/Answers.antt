@@ -22,7 +22,7 @@ use Rattle.wim.specs.Program.{Program, edit, revise, bring, done, reached, hist
 use Rattle.wim.specs.Sending.{send}
 use Rattle.wim.specs.History.{placeOf}
 use Rattle.wim.specs.Script.{remove, file}
-use Rattle.wim.specs.Response.{actOnHeaders, whereTo, withFragmentOf, redirection, laterThan, upTo, newDocument, load, arrive, answerWindow, answerScript, answerReached, processResponse}
+use Rattle.wim.specs.Response.{actOnHeaders, whereTo, withFragmentOf, redirection, laterThan, upTo, newDocument, Course, nothingMore, windowCourse, scriptCourse, courseOf, takes, processResponse}
 use Rattle.wim.specs.Main.{encryptedAnswer, plainAnswer, goOut, resolved, program}
 use Rattle.wim.specs.LocalSteps.{asked, awaited, home, topOfDocument, topOf, hosts, urlHost, redirectHost, answerHosts}
 use Rattle.wim.proofs.Walks.{reached-from, reached-top}
@@ -79,12 +79,17 @@ module _ (F : Part) (b : Tables) (W : Whole F b) (w : Waiting) (a : Answer) (new
     (orq : F .own (request, w .request .number .0) ≡ true) (oh : F .own (host, w .request .host .0) ≡ true) (s : sees F (leads (w .reference)) ≡ true)
     (ol : (t : WindowNumber) → topOfLabel b (leads (w .reference)) ≡ some t → F .own (leads (w .reference)) ≡ true)
     (ore : (h : Host) → In h (redirectHost a (w .reference)) → F .own (host, h .0) ≡ true) where
-  headers-only : Keeps F nothing (actOnHeaders w a new (done none)) b
+  -- headers are acted upon, and the answer goes on
+  abbrev goes : Course → Program
+  goes c = actOnHeaders w a new (takes c w a)
+
+  headers-only : Keeps F nothing (goes nothingMore) b
+  unfolding takes
   headers-only = kept-headers F nothing w a new (done none) orq oh few (λ c. four _ refl) b
 
-  kept-load : (v : WindowNumber) (script : Script) (state : ScriptState) → F .own (window, v .0) ≡ true → Keeps F nothing (load v w a new script state) b
-  unfolding load
-  kept-load v script state ov = (
+  kept-load : (v : WindowNumber) (top : WindowNumber) (script : Script) (state : ScriptState) → F .own (window, v .0) ≡ true → Keeps F nothing (windowCourse v (some top) none (Page script state) goes) b
+  unfolding windowCourse takes
+  kept-load v top script state ov = (
     own-sees F (window, v .0) ov,
     (
       (λ x e. own-sees F (document, x .0) (gone-own x e)),
@@ -108,19 +113,15 @@ module _ (F : Part) (b : Tables) (W : Whole F b) (w : Waiting) (a : Answer) (new
       gone-own : (n : DocumentNumber) → oneOf n gone ≡ true → F .own (document, n .0) ≡ true
       gone-own = some-own F b W v (laterThan current ds) ov (later-in current ds)
 
-  kept-arrive : (v : WindowNumber) (body : Body) → F .own (window, v .0) ≡ true → Keeps F nothing (arrive v w a new body) b
-  unfolding arrive
-  kept-arrive v (Number m) ov = headers-only
-  kept-arrive v (Page script state) ov = kept-load v script state ov
+  kept-window : (v top : WindowNumber) (to : Option Url) (body : Body) → ((h : Host) → In h (urlHost to) → F .own (host, h .0) ≡ true) → F .own (window, v .0) ≡ true → Keeps F nothing (windowCourse v (some top) to body goes) b
+  unfolding windowCourse takes
+  kept-window v top (some u) body h ov = kept-headers F nothing w a new (send (redirection (withFragmentOf (w .url) u) w a)) orq oh few (kept-send F (acting nothing) (redirection (withFragmentOf (w .url) u) w a) s (h (u .host) (inl refl)) (four _ refl)) b
+  kept-window v top none (Number m) h ov = headers-only
+  kept-window v top none (Page script state) h ov = kept-load v top script state ov
 
-  kept-window : (v : WindowNumber) (o : Option Url) → ((h : Host) → In h (urlHost o) → F .own (host, h .0) ≡ true) → F .own (window, v .0) ≡ true → Keeps F nothing (answerWindow v w a new o) b
-  unfolding answerWindow
-  kept-window v none h ov = kept-arrive v (a .body) ov
-  kept-window v (some u) h ov = kept-headers F nothing w a new (send (redirection (withFragmentOf (w .url) u) w a)) orq oh few (kept-send F (acting nothing) (redirection (withFragmentOf (w .url) u) w a) s (h (u .host) (inl refl)) (four _ refl)) b
-
-  kept-script-answer : (n : DocumentNumber) (matching : Matching) (o : Option Url) (d : Option Document) → observed (listening n) b ≡ d → w .reference ≡ Xhr n matching → Keeps F nothing (answerScript w a new matching o d) b
-  unfolding answerScript
-  kept-script-answer n matching (some u) d e r = headers-only
+  kept-script-answer : (n : DocumentNumber) (matching : Matching) (to : Option Url) (found : Option Document) → observed (listening n) b ≡ found → w .reference ≡ Xhr n matching → Keeps F nothing (scriptCourse matching to found goes) b
+  unfolding scriptCourse takes
+  kept-script-answer n matching (some u) found e r = headers-only
   kept-script-answer n matching none none e r = headers-only
   kept-script-answer n matching none (some d) e r = (
     own-sees F (document, d .number .0) od,
@@ -138,12 +139,12 @@ module _ (F : Part) (b : Tables) (W : Whole F b) (w : Waiting) (a : Answer) (new
       od = ap (λ (x : DocumentNumber). F .own (document, x .0)) (z .0) ∙ on′
 
   kept-process : (r : Reference) → w .reference ≡ r → Keeps F nothing (processResponse r w a new) b
-  unfolding processResponse answerReached topOf observed
+  unfolding processResponse courseOf windowCourse topOf observed
   kept-process (Req v) e = (ap (λ (r : Reference). sees F (leads r)) (sym e) ∙ s, to (observed (reached v) b) refl)
     where
-      to : (o : Option WindowNumber) → observed (reached v) b ≡ o → Keeps F nothing (answerReached v w a new o) b
+      to : (found : Option WindowNumber) → observed (reached v) b ≡ found → Keeps F nothing (windowCourse v found (whereTo (a .status) (a .location)) (a .body) goes) b
       to none f = headers-only
-      to (some top) f = kept-window v (whereTo (a .status) (a .location)) (λ h i. ore h (subst (λ (r : Reference). In h (redirectHost a r)) (sym e) i)) ov
+      to (some top) f = kept-window v top (whereTo (a .status) (a .location)) (a .body) (λ h i. ore h (subst (λ (r : Reference). In h (redirectHost a r)) (sym e) i)) ov
         where
           ov : F .own (window, v .0) ≡ true
           ov = ap (λ (r : Reference). F .own (leads r)) (sym e) ∙ ol top (ap (λ (r : Reference). topOfLabel b (leads r)) e ∙ reached-top (b windows) (b documents) steps v top f)

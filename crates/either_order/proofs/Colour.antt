@@ -16,7 +16,7 @@ use Rattle.tables.specs.Tables.{windows, documents, pendingDNS, pendingRequests
 use Rattle.tables.specs.Labels.{Kind, window, request, dns, key, document, host, Label, leads}
 use Rattle.tables.specs.Rows.{sameDocument, hasKey}
 use Rattle.wim.specs.Nouns.{WindowNumber, DocumentNumber, KeyNumber, Host, Window, Document, Question, Waiting, Reference, Req, Xhr, Under, Seal, Keyless, Keyed}
-use Rattle.wim.specs.Walks.{windowNumbered, documentNumbered, aboveDocument, aboveRow, aboveParent, above, climb, topAbove}
+use Rattle.wim.specs.Walks.{windowNumbered, documentNumbered, aboveDocument, aboveRow, aboveParent, above, topAt, topAbove}
 use Rattle.wim.specs.LocalSteps.{topOfDocument, topOf}
 use Rattle.wim.specs.Invariant.{Numbered}
 use Rattle.tables.proofs.Update.{linear}
@@ -79,12 +79,12 @@ module _ (b : Tables) (N : Numbered b) where
   -- a child window has the colour of the document that holds it
   pub colour-child : length (b windows) ≤ 31 → (r : Window) (n : DocumentNumber) → In r (b windows) → r .parent ≡ Under n → colour b document (n .0) ≡ colour b window (r .number .0)
   unfolding colour topOf topAbove above windowNumbered
-  colour-child few r n i e = ap topColour (go (documentNumbered (b documents) n) ∙ ap (climb none (some (r .number)) (λ d. topAbove 31 (b windows) (b documents) (d .window))) (sym held))
+  colour-child few r n i e = ap topColour (go (documentNumbered (b documents) n) ∙ ap (topAt (topAbove 31 (b windows) (b documents)) (r .number)) (sym held))
     where
       held : above (b windows) (b documents) (r .number) ≡ aboveDocument (documentNumbered (b documents) n)
       held = ap (aboveRow (b documents)) (at-in (keyOf windows) (cmp windows) (linear windows) (b windows) r (N .sorted windows) i) ∙ ap (aboveParent (b documents)) e
 
-      go : (o : Option Document) → topOfDocument b o ≡ climb none (some (r .number)) (λ d. topAbove 31 (b windows) (b documents) (d .window)) (aboveDocument o)
+      go : (o : Option Document) → topOfDocument b o ≡ topAt (topAbove 31 (b windows) (b documents)) (r .number) (aboveDocument o)
       go none = refl
       go (some d) = sym (settled (b windows) (b documents) 31 (d .window) few)
 

@@ -9,7 +9,7 @@ use lib.ListN.{length}
 use Rattle.sorted.specs.Table.{In}
 use Rattle.sorted.proofs.Never.{never}
 use Rattle.wim.specs.Nouns.{WindowNumber, Window, Document}
-use Rattle.wim.specs.Walks.{Above, missing, topmost, heldBy, above, climb, topAbove}
+use Rattle.wim.specs.Walks.{Above, missing, topmost, heldBy, above, topAt, topAbove}
 use Rattle.wim.proofs.Pigeon.{pigeon}
 use Rattle.wim.proofs.Walks.{above-row, top-more}
 
@@ -34,7 +34,7 @@ module _ (ws : List Window) (ds : List Document) where
   unfolding topAbove
   heights zero w h m l = go (above ws ds w) refl (h .1 .1)
     where
-      go : (u : Above) → above ws ds w ≡ u → climb none (some w) (λ d. topAbove zero ws ds (d .window)) u ≡ some (h .1 .0) → (r : Window) × In r ws × High m (r .number)
+      go : (u : Above) → above ws ds w ≡ u → topAt (topAbove zero ws ds) w u ≡ some (h .1 .0) → (r : Window) × In r ws × High m (r .number)
       go missing e f = never (cc)
       go topmost e f =
           let z = above-row ws ds w topmost e (λ q. never (cc)) in
@@ -42,7 +42,7 @@ module _ (ws : List Window) (ds : List Document) where
       go (heldBy d) e f = never (cc)
   heights (suc n) w h m l = go (above ws ds w) refl (h .0) (h .1 .1) (heights n) (decLe m n)
     where
-      go : (u : Above) → above ws ds w ≡ u → climb none (some w) (λ d. topAbove n ws ds (d .window)) u ≡ none → climb none (some w) (λ d. topAbove (suc n) ws ds (d .window)) u ≡ some (h .1 .0)
+      go : (u : Above) → above ws ds w ≡ u → topAt (topAbove n ws ds) w u ≡ none → topAt (topAbove (suc n) ws ds) w u ≡ some (h .1 .0)
           → ((v : WindowNumber) → High n v → (m : ℕ) → m ≤ n → (r : Window) × In r ws × High m (r .number)) → Dec (m ≤ n) → (r : Window) × In r ws × High m (r .number)
       go missing e f g ih c = never (cc)
       go topmost e f g ih c = never (cc)

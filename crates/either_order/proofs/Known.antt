@@ -15,7 +15,7 @@ use Rattle.tables.specs.Tables.{windows, documents, pendingDNS, pendingRequests
 use Rattle.tables.specs.Labels.{Kind, window, request, dns, key, document, host, Label, leads}
 use Rattle.tables.specs.Rows.{hasKey, hasNoKey}
 use Rattle.wim.specs.Nouns.{WindowNumber, DocumentNumber, RequestNumber, KeyNumber, Reference, Req, NewWindow, Existing, Event, RunScript, Urlbar, Reload, GoForward, GoBack, CloseCorrupt, EncryptedAnswer, PlainAnswer, DnsResolved, Document, Question, Waiting, DnsNumber}
-use Rattle.wim.specs.Walks.{documentNumbered, Above, missing, topmost, heldBy, above, climb, topAbove}
+use Rattle.wim.specs.Walks.{documentNumbered, Above, missing, topmost, heldBy, above, topAt, topAbove}
 use Rattle.wim.specs.Program.{question, keyless, keyed, observed}
 use Rattle.wim.specs.LocalSteps.{asked, awaited, home, topOfDocument, topOf, names}
 use Rattle.wim.proofs.Walks.{above-row}
@@ -38,7 +38,7 @@ coloured b window n c h = go (above (b windows) (b documents) w) refl c
     stands-in : (u : Above) → above (b windows) (b documents) w ≡ u → (u ≡ missing → ⊥) → window ≡ host
     stands-in u e k = let z = above-row (b windows) (b documents) w u e k in absurd (h .nowhere windows (z .0) (z .1) (inl (ap (λ (v : WindowNumber). (window, v .0)) (sym (z .2)))))
 
-    go : (u : Above) → above (b windows) (b documents) w ≡ u → (topColour (climb none (some w) (λ d. topAbove 31 (b windows) (b documents) (d .window)) u) ≡ colourless → ⊥) → window ≡ host
+    go : (u : Above) → above (b windows) (b documents) w ≡ u → (topColour (topAt (topAbove 31 (b windows) (b documents)) w u) ≡ colourless → ⊥) → window ≡ host
     go missing e c = absurd (c refl)
     go topmost e c = stands-in topmost e (λ q. never (cc))
     go (heldBy d) e c = stands-in (heldBy d) e (λ q. never (cc))

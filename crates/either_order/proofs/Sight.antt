@@ -18,7 +18,7 @@ use Rattle.tables.specs.Tables.{Table, windows, documents, cookies, inputs, pen
 use Rattle.tables.specs.Labels.{window, request, dns, key, document, host, Label, tag, ties, parentLabel, sealLabel}
 use Rattle.tables.specs.Rows.{sameWindow, sameDocument, oneOf, originOf, sameHost, goesOver, hasKey, hasNoKey}
 use Rattle.wim.specs.Nouns.{WindowNumber, DocumentNumber, KeyNumber, Document, Window, HostCookie, Input, Waiting, Parent, Top, Under, Seal, Keyless, Keyed}
-use Rattle.wim.specs.Walks.{documentsOf, activeAmong, activeDocument, windowNumbered, documentNumbered, Above, missing, topmost, heldBy, aboveDocument, aboveParent, aboveRow, above, climb, steps, reachedFrom, isUnder, removal}
+use Rattle.wim.specs.Walks.{documentsOf, activeAmong, activeDocument, windowNumbered, documentNumbered, Above, missing, topmost, heldBy, aboveDocument, aboveParent, aboveRow, above, reachedAt, underAt, steps, reachedFrom, isUnder, removal}
 use Rattle.wim.specs.Navigable.{mayNavigate}
 use Rattle.wim.specs.Program.{Query, reached, topLevel, active, history, navigated, ofOrigin, listening, arrived, under, strict, cookiesOf, cookiesFor, question, keyless, keyed, isTop, when, withOrigin, listens, observed}
 use Rattle.wim.proofs.Numbers.{row-numbered, found-document}
@@ -92,27 +92,28 @@ module _ (P : Label → Bool) (b : Tables) (E : Even P b) where
                   let e₂ : P (document, n .0) ≡ P (window, r .number .0) = child-even r n (fr .0) h in
                   sym (document-even x i) ∙ (ap (λ (k : ℕ). P (document, k)) (eqb-true (x .number .0) (n .0) e) ∙ (e₂ ∙ (ap (λ (v : WindowNumber). P (window, v .0)) (fr .1) ∙ s))))
 
-  climb-local : {A : Type 0} (g t : A) (f′ f : Document → A) (w : WindowNumber) → P (window, w .0) ≡ true
-      → ((d : Document) → P (window, d .window .0) ≡ true → f′ d ≡ f d) → climb g t f′ (above (restrict P b windows) (restrict P b documents) w) ≡ climb g t f (above (b windows) (b documents) w)
-  climb-local g t f′ f w s h = ap (climb g t f′) (above-local w s) ∙ go (above (b windows) (b documents) w) refl
+  -- a walk that goes by what stands above a window goes the same way in its part
+  walk-local : {A : Type 0} (f′ f : Above → A) (w : WindowNumber) → P (window, w .0) ≡ true → f′ missing ≡ f missing → f′ topmost ≡ f topmost
+      → ((d : Document) → P (window, d .window .0) ≡ true → f′ (heldBy d) ≡ f (heldBy d)) → f′ (above (restrict P b windows) (restrict P b documents) w) ≡ f (above (b windows) (b documents) w)
+  walk-local f′ f w s lost top h = ap f′ (above-local w s) ∙ go (above (b windows) (b documents) w) refl
     where
-      go : (u : Above) → above (b windows) (b documents) w ≡ u → climb g t f′ u ≡ climb g t f u
-      go missing e = refl
-      go topmost e = refl
+      go : (u : Above) → above (b windows) (b documents) w ≡ u → f′ u ≡ f u
+      go missing e = lost
+      go topmost e = top
       go (heldBy d) e = h d (sym (above-even w d e .1) ∙ s)
 
   reached-local : (n : ℕ) (w : WindowNumber) → P (window, w .0) ≡ true → reachedFrom n (restrict P b windows) (restrict P b documents) w ≡ reachedFrom n (b windows) (b documents) w
   unfolding reachedFrom
   reached-local zero w s = refl
   reached-local (suc n) w s =
-      climb-local none (some w) (λ d. cond (d .active) (reachedFrom n (restrict P b windows) (restrict P b documents) (d .window)) none) (λ d. cond (d .active) (reachedFrom n (b windows) (b documents) (d .window)) none) w s
+      walk-local (reachedAt (reachedFrom n (restrict P b windows) (restrict P b documents)) w) (reachedAt (reachedFrom n (b windows) (b documents)) w) w s refl refl
       (λ d p. ap (λ (x : Option WindowNumber). cond (d .active) x none) (reached-local n (d .window) p))
 
   under-local : (n : ℕ) (gone : List DocumentNumber) (w : WindowNumber) → P (window, w .0) ≡ true → isUnder n (restrict P b windows) (restrict P b documents) gone w ≡ isUnder n (b windows) (b documents) gone w
   unfolding isUnder
   under-local zero gone w s = refl
   under-local (suc n) gone w s =
-      climb-local false false (λ d. oneOf (d .number) gone || isUnder n (restrict P b windows) (restrict P b documents) gone (d .window)) (λ d. oneOf (d .number) gone || isUnder n (b windows) (b documents) gone (d .window)) w s
+      walk-local (underAt (isUnder n (restrict P b windows) (restrict P b documents) gone) gone) (underAt (isUnder n (b windows) (b documents) gone) gone) w s refl refl
       (λ d p. ap (λ (x : Bool). oneOf (d .number) gone || x) (under-local n gone (d .window) p))
 
   -- the top-level window from which a window is reached is of its part
@@ -125,7 +126,7 @@ module _ (P : Label → Bool) (b : Tables) (E : Even P b) where
       further d true e = e
       further d false e = never (cc)
 
-      go : (u : Above) → above (b windows) (b documents) w ≡ u → climb none (some w) (λ d. cond (d .active) (reachedFrom n (b windows) (b documents) (d .window)) none) u ≡ some t
+      go : (u : Above) → above (b windows) (b documents) w ≡ u → reachedAt (reachedFrom n (b windows) (b documents)) w u ≡ some t
           → ((v s : WindowNumber) → reachedFrom n (b windows) (b documents) v ≡ some s → P (window, v .0) ≡ P (window, s .0)) → P (window, w .0) ≡ P (window, t .0)
       go missing f g ih = never (cc)
       go topmost f g ih = let z : w ≡ t = cc in ap (λ (v : WindowNumber). P (window, v .0)) z
@@ -137,7 +138,7 @@ module _ (P : Label → Bool) (b : Tables) (E : Even P b) where
   under-part zero gone h w e = never (cc)
   under-part (suc n) gone h w e = go (above (b windows) (b documents) w) refl e (under-part n gone h)
     where
-      go : (u : Above) → above (b windows) (b documents) w ≡ u → climb false false (λ d. oneOf (d .number) gone || isUnder n (b windows) (b documents) gone (d .window)) u ≡ true
+      go : (u : Above) → above (b windows) (b documents) w ≡ u → underAt (isUnder n (b windows) (b documents) gone) gone u ≡ true
           → ((v : WindowNumber) → isUnder n (b windows) (b documents) gone v ≡ true → P (window, v .0) ≡ true) → P (window, w .0) ≡ true
       go missing f g ih = never (cc)
       go topmost f g ih = never (cc)

@@ -59,15 +59,15 @@ use Rattle.either_order.proofs.OnTexts.{either-order-on-texts}
 
 -- BOTH ORDERS COMPUTED.
 pub the-lines : (prints followsFirst ≡ true) × (prints loadsFirst ≡ true)
-unfolding Answers.digitAt At.termAt At.termsAt At.stringAt At.numberAt At.markAt Decode.inside Decode.one Decode.end Decode.upTo Decode.perhaps Decode.atomOf Decode.either Decode.maps Decode.same Decode.word Decode.means Decode.numeral Decode.optionally Decode.optionalOf Decode.labelledOf Limits.shallow Limits.shallows Limits.endingOf Limits.wholeOf Read.run Read.number Read.mark Read.bytes Read.string Read.read Read.reads Read.term Read.terms Term.digits Term.decimal Term.write Term.writes Term.levels Term.levelsIn Encode.numberTerm Encode.optionalTerm Encode.each Encode.labelled Encode.joins Puts.over Table.find Table.keep Table.insert Table.lower Table.has Labels.clean Labels.isFresh Events.eventOf Items.unless Items.moreHeaders Texts.itemIn Rows.jar Cookies.cookieMerge Cookies.addCookies History.moved History.navBack History.navForward LocalSteps.isLocal LocalSteps.home LocalSteps.topOf LocalSteps.stands LocalSteps.hosts LocalSteps.names Main.urlbar Main.reload Main.forward Main.back Main.closeCorrupt Main.encryptedAnswer Main.plainAnswer Main.goOut Main.resolved Main.program Navigable.ancestorHas Navigable.navigableDirectly Navigable.follows Navigable.navigableMask Navigable.navigableSize Program.observed Program.run Response.load Response.arrive Response.answerWindow Response.answerScript Response.answerReached Response.processResponse Run.playFrom Run.play Script.href Script.iframe Script.form Script.setting Script.xhr Script.close Script.deliver Script.postMessage Script.command Script.runScript Sending.send Step.allFresh Step.fits Step.stepTables Step.step Walks.documentsOf Walks.activeDocument Walks.windowNumbered Walks.documentNumbered Walks.above Walks.topAbove Walks.reachedFrom Walks.isUnder Walks.removal Wire.rehearse setUp setUpLines following loading
+unfolding Answers.digitAt At.termAt At.termsAt At.stringAt At.numberAt At.markAt Decode.inside Decode.one Decode.end Decode.upTo Decode.perhaps Decode.atomOf Decode.either Decode.maps Decode.same Decode.word Decode.means Decode.numeral Decode.optionally Decode.optionalOf Decode.labelledOf Limits.shallow Limits.shallows Limits.endingOf Limits.wholeOf Read.run Read.number Read.mark Read.bytes Read.string Read.read Read.reads Read.term Read.terms Term.digits Term.decimal Term.write Term.writes Term.levels Term.levelsIn Encode.numberTerm Encode.optionalTerm Encode.each Encode.labelled Encode.joins Puts.over Table.find Table.keep Table.insert Table.lower Table.has Labels.clean Labels.isFresh Events.eventOf Items.unless Items.moreHeaders Texts.itemIn Rows.jar Cookies.cookieMerge Cookies.addCookies History.moved History.navBack History.navForward LocalSteps.isLocal LocalSteps.home LocalSteps.topOf LocalSteps.stands LocalSteps.hosts LocalSteps.names Main.urlbar Main.reload Main.forward Main.back Main.closeCorrupt Main.encryptedAnswer Main.plainAnswer Main.goOut Main.resolved Main.program Navigable.ancestorHas Navigable.navigableDirectly Navigable.follows Navigable.navigableMask Navigable.navigableSize Program.observed Program.run Response.windowCourse Response.scriptCourse Response.courseOf Response.takes Response.processResponse Run.playFrom Run.play Script.href Script.iframe Script.form Script.setting Script.xhr Script.close Script.deliver Script.postMessage Script.command Script.runScript Sending.send Step.allFresh Step.fits Step.stepTables Step.step Walks.documentsOf Walks.activeDocument Walks.windowNumbered Walks.documentNumbered Walks.above Walks.topAbove Walks.reachedFrom Walks.isUnder Walks.removal Wire.rehearse setUp setUpLines following loading
 the-lines = (refl, refl)
 
 pub the-rows : (documentsShown (leavesAll (following ∷ (loading ∷ [])) here .tables) ≡ inTheEnd) × (documentsShown (leavesAll (loading ∷ (following ∷ [])) here .tables) ≡ inTheEnd)
-unfolding Answers.digitAt At.termAt At.termsAt At.stringAt At.numberAt At.markAt Decode.inside Decode.one Decode.end Decode.upTo Decode.perhaps Decode.atomOf Decode.either Decode.maps Decode.same Decode.word Decode.means Decode.numeral Decode.optionally Decode.optionalOf Decode.labelledOf Limits.shallow Limits.shallows Limits.endingOf Limits.wholeOf Read.run Read.number Read.mark Read.bytes Read.string Read.read Read.reads Read.term Read.terms Term.digits Term.decimal Term.write Term.writes Term.levels Term.levelsIn Encode.numberTerm Encode.optionalTerm Encode.each Encode.labelled Encode.joins Puts.over Table.find Table.keep Table.insert Table.lower Table.has Labels.clean Labels.isFresh Events.eventOf Items.unless Items.moreHeaders Texts.itemIn Rows.jar Cookies.cookieMerge Cookies.addCookies History.moved History.navBack History.navForward LocalSteps.isLocal LocalSteps.home LocalSteps.topOf LocalSteps.stands LocalSteps.hosts LocalSteps.names Main.urlbar Main.reload Main.forward Main.back Main.closeCorrupt Main.encryptedAnswer Main.plainAnswer Main.goOut Main.resolved Main.program Navigable.ancestorHas Navigable.navigableDirectly Navigable.follows Navigable.navigableMask Navigable.navigableSize Program.observed Program.run Response.load Response.arrive Response.answerWindow Response.answerScript Response.answerReached Response.processResponse Run.playFrom Run.play Script.href Script.iframe Script.form Script.setting Script.xhr Script.close Script.deliver Script.postMessage Script.command Script.runScript Sending.send Step.allFresh Step.fits Step.stepTables Step.step Walks.documentsOf Walks.activeDocument Walks.windowNumbered Walks.documentNumbered Walks.above Walks.topAbove Walks.reachedFrom Walks.isUnder Walks.removal Wire.rehearse setUp here following loading inTheEnd
+unfolding Answers.digitAt At.termAt At.termsAt At.stringAt At.numberAt At.markAt Decode.inside Decode.one Decode.end Decode.upTo Decode.perhaps Decode.atomOf Decode.either Decode.maps Decode.same Decode.word Decode.means Decode.numeral Decode.optionally Decode.optionalOf Decode.labelledOf Limits.shallow Limits.shallows Limits.endingOf Limits.wholeOf Read.run Read.number Read.mark Read.bytes Read.string Read.read Read.reads Read.term Read.terms Term.digits Term.decimal Term.write Term.writes Term.levels Term.levelsIn Encode.numberTerm Encode.optionalTerm Encode.each Encode.labelled Encode.joins Puts.over Table.find Table.keep Table.insert Table.lower Table.has Labels.clean Labels.isFresh Events.eventOf Items.unless Items.moreHeaders Texts.itemIn Rows.jar Cookies.cookieMerge Cookies.addCookies History.moved History.navBack History.navForward LocalSteps.isLocal LocalSteps.home LocalSteps.topOf LocalSteps.stands LocalSteps.hosts LocalSteps.names Main.urlbar Main.reload Main.forward Main.back Main.closeCorrupt Main.encryptedAnswer Main.plainAnswer Main.goOut Main.resolved Main.program Navigable.ancestorHas Navigable.navigableDirectly Navigable.follows Navigable.navigableMask Navigable.navigableSize Program.observed Program.run Response.windowCourse Response.scriptCourse Response.courseOf Response.takes Response.processResponse Run.playFrom Run.play Script.href Script.iframe Script.form Script.setting Script.xhr Script.close Script.deliver Script.postMessage Script.command Script.runScript Sending.send Step.allFresh Step.fits Step.stepTables Step.step Walks.documentsOf Walks.activeDocument Walks.windowNumbered Walks.documentNumbered Walks.above Walks.topAbove Walks.reachedFrom Walks.isUnder Walks.removal Wire.rehearse setUp here following loading inTheEnd
 the-rows = (refl, refl)
 
 pub the-questions : (questionsShown (here .tables) ≡ 32 ∷ []) × (questionsShown (leavesAll (following ∷ (loading ∷ [])) here .tables) ≡ 31 ∷ []) × (questionsShown (leavesAll (loading ∷ (following ∷ [])) here .tables) ≡ 31 ∷ [])
-unfolding Answers.digitAt At.termAt At.termsAt At.stringAt At.numberAt At.markAt Decode.inside Decode.one Decode.end Decode.upTo Decode.perhaps Decode.atomOf Decode.either Decode.maps Decode.same Decode.word Decode.means Decode.numeral Decode.optionally Decode.optionalOf Decode.labelledOf Limits.shallow Limits.shallows Limits.endingOf Limits.wholeOf Read.run Read.number Read.mark Read.bytes Read.string Read.read Read.reads Read.term Read.terms Term.digits Term.decimal Term.write Term.writes Term.levels Term.levelsIn Encode.numberTerm Encode.optionalTerm Encode.each Encode.labelled Encode.joins Puts.over Table.find Table.keep Table.insert Table.lower Table.has Labels.clean Labels.isFresh Events.eventOf Items.unless Items.moreHeaders Texts.itemIn Rows.jar Cookies.cookieMerge Cookies.addCookies History.moved History.navBack History.navForward LocalSteps.isLocal LocalSteps.home LocalSteps.topOf LocalSteps.stands LocalSteps.hosts LocalSteps.names Main.urlbar Main.reload Main.forward Main.back Main.closeCorrupt Main.encryptedAnswer Main.plainAnswer Main.goOut Main.resolved Main.program Navigable.ancestorHas Navigable.navigableDirectly Navigable.follows Navigable.navigableMask Navigable.navigableSize Program.observed Program.run Response.load Response.arrive Response.answerWindow Response.answerScript Response.answerReached Response.processResponse Run.playFrom Run.play Script.href Script.iframe Script.form Script.setting Script.xhr Script.close Script.deliver Script.postMessage Script.command Script.runScript Sending.send Step.allFresh Step.fits Step.stepTables Step.step Walks.documentsOf Walks.activeDocument Walks.windowNumbered Walks.documentNumbered Walks.above Walks.topAbove Walks.reachedFrom Walks.isUnder Walks.removal Wire.rehearse setUp here following loading
+unfolding Answers.digitAt At.termAt At.termsAt At.stringAt At.numberAt At.markAt Decode.inside Decode.one Decode.end Decode.upTo Decode.perhaps Decode.atomOf Decode.either Decode.maps Decode.same Decode.word Decode.means Decode.numeral Decode.optionally Decode.optionalOf Decode.labelledOf Limits.shallow Limits.shallows Limits.endingOf Limits.wholeOf Read.run Read.number Read.mark Read.bytes Read.string Read.read Read.reads Read.term Read.terms Term.digits Term.decimal Term.write Term.writes Term.levels Term.levelsIn Encode.numberTerm Encode.optionalTerm Encode.each Encode.labelled Encode.joins Puts.over Table.find Table.keep Table.insert Table.lower Table.has Labels.clean Labels.isFresh Events.eventOf Items.unless Items.moreHeaders Texts.itemIn Rows.jar Cookies.cookieMerge Cookies.addCookies History.moved History.navBack History.navForward LocalSteps.isLocal LocalSteps.home LocalSteps.topOf LocalSteps.stands LocalSteps.hosts LocalSteps.names Main.urlbar Main.reload Main.forward Main.back Main.closeCorrupt Main.encryptedAnswer Main.plainAnswer Main.goOut Main.resolved Main.program Navigable.ancestorHas Navigable.navigableDirectly Navigable.follows Navigable.navigableMask Navigable.navigableSize Program.observed Program.run Response.windowCourse Response.scriptCourse Response.courseOf Response.takes Response.processResponse Run.playFrom Run.play Script.href Script.iframe Script.form Script.setting Script.xhr Script.close Script.deliver Script.postMessage Script.command Script.runScript Sending.send Step.allFresh Step.fits Step.stepTables Step.step Walks.documentsOf Walks.activeDocument Walks.windowNumbered Walks.documentNumbered Walks.above Walks.topAbove Walks.reachedFrom Walks.isUnder Walks.removal Wire.rehearse setUp here following loading
 the-questions = (refl, refl, refl)
 
 -- LISTS WITHOUT A LABEL IN COMMON.
@@ -101,7 +101,7 @@ record Premises : Type 0 where
   load-accepted : rehearse (text loading) here [] 0 .verdict ≡ Accepted
 
 premises : Premises
-unfolding Answers.digitAt At.termAt At.termsAt At.stringAt At.numberAt At.markAt Decode.inside Decode.one Decode.end Decode.upTo Decode.perhaps Decode.atomOf Decode.either Decode.maps Decode.same Decode.word Decode.means Decode.numeral Decode.optionally Decode.optionalOf Decode.labelledOf Limits.shallow Limits.shallows Limits.endingOf Limits.wholeOf Read.run Read.number Read.mark Read.bytes Read.string Read.read Read.reads Read.term Read.terms Term.digits Term.decimal Term.write Term.writes Term.levels Term.levelsIn Encode.numberTerm Encode.optionalTerm Encode.each Encode.labelled Encode.joins Puts.over Table.find Table.keep Table.insert Table.lower Table.has Labels.clean Labels.isFresh Events.eventOf Items.unless Items.moreHeaders Texts.itemIn Rows.jar Cookies.cookieMerge Cookies.addCookies History.moved History.navBack History.navForward LocalSteps.isLocal LocalSteps.home LocalSteps.topOf LocalSteps.stands LocalSteps.hosts LocalSteps.names Main.urlbar Main.reload Main.forward Main.back Main.closeCorrupt Main.encryptedAnswer Main.plainAnswer Main.goOut Main.resolved Main.program Navigable.ancestorHas Navigable.navigableDirectly Navigable.follows Navigable.navigableMask Navigable.navigableSize Program.observed Program.run Response.load Response.arrive Response.answerWindow Response.answerScript Response.answerReached Response.processResponse Run.playFrom Run.play Script.href Script.iframe Script.form Script.setting Script.xhr Script.close Script.deliver Script.postMessage Script.command Script.runScript Sending.send Step.allFresh Step.fits Step.stepTables Step.step Walks.documentsOf Walks.activeDocument Walks.windowNumbered Walks.documentNumbered Walks.above Walks.topAbove Walks.reachedFrom Walks.isUnder Walks.removal Wire.rehearse setUp here following loading follow load
+unfolding Answers.digitAt At.termAt At.termsAt At.stringAt At.numberAt At.markAt Decode.inside Decode.one Decode.end Decode.upTo Decode.perhaps Decode.atomOf Decode.either Decode.maps Decode.same Decode.word Decode.means Decode.numeral Decode.optionally Decode.optionalOf Decode.labelledOf Limits.shallow Limits.shallows Limits.endingOf Limits.wholeOf Read.run Read.number Read.mark Read.bytes Read.string Read.read Read.reads Read.term Read.terms Term.digits Term.decimal Term.write Term.writes Term.levels Term.levelsIn Encode.numberTerm Encode.optionalTerm Encode.each Encode.labelled Encode.joins Puts.over Table.find Table.keep Table.insert Table.lower Table.has Labels.clean Labels.isFresh Events.eventOf Items.unless Items.moreHeaders Texts.itemIn Rows.jar Cookies.cookieMerge Cookies.addCookies History.moved History.navBack History.navForward LocalSteps.isLocal LocalSteps.home LocalSteps.topOf LocalSteps.stands LocalSteps.hosts LocalSteps.names Main.urlbar Main.reload Main.forward Main.back Main.closeCorrupt Main.encryptedAnswer Main.plainAnswer Main.goOut Main.resolved Main.program Navigable.ancestorHas Navigable.navigableDirectly Navigable.follows Navigable.navigableMask Navigable.navigableSize Program.observed Program.run Response.windowCourse Response.scriptCourse Response.courseOf Response.takes Response.processResponse Run.playFrom Run.play Script.href Script.iframe Script.form Script.setting Script.xhr Script.close Script.deliver Script.postMessage Script.command Script.runScript Sending.send Step.allFresh Step.fits Step.stepTables Step.step Walks.documentsOf Walks.activeDocument Walks.windowNumbered Walks.documentNumbered Walks.above Walks.topAbove Walks.reachedFrom Walks.isUnder Walks.removal Wire.rehearse setUp here following loading follow load
 premises = record {
   follow-read = refl;
   load-read = refl;

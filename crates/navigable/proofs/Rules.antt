@@ -9,8 +9,8 @@ use lib.ListN.{length}
 use Rattle.sorted.specs.Table.{looked}
 use Rattle.tables.specs.Rows.{sameWindow, originOf, sameOrigin}
 use Rattle.wim.specs.Nouns.{WindowNumber, Origin, Window, Document, Opener}
-use Rattle.wim.specs.Walks.{activeDocument, hasOrigin, Above, heldBy, above, climb, steps, topAbove, isReached}
-use Rattle.wim.specs.Navigable.{openerOf, ancestorHas, isWindow, navigableDirectly, follows, mayNavigate}
+use Rattle.wim.specs.Walks.{activeDocument, hasOrigin, Above, heldBy, above, steps, topAbove, isReached}
+use Rattle.wim.specs.Navigable.{openerOf, ancestorHas, isWindow, navigableDirectly, follows, mayNavigate, ancestorAt}
 use Rattle.wim.proofs.Navigable.{byOpener}
 use Rattle.walks.proofs.Up.{no-step, a-step}
 
@@ -30,11 +30,11 @@ module _ (ws : List Window) (ds : List Document) (o : Origin) (v : WindowNumber)
   ancestor-none e = no-step (λ k. ancestorHas k ws ds o v) e refl
 
   pub ancestor-climbs : (u : Above) → (n ≡ 0 → ⊥) → u ≡ above ws ds v
-      → climb false false (λ d. d .active && (hasOrigin o (activeDocument ds (d .window)) || ancestorHas (n - 1) ws ds o (d .window))) u ≡ ancestorHas n ws ds o v
+      → ancestorAt (ancestorHas (n - 1) ws ds o) ds o u ≡ ancestorHas n ws ds o v
   unfolding ancestorHas
   ancestor-climbs u e f =
       a-step (λ k. ancestorHas k ws ds o v) e
-      (ap (climb false false (λ d. d .active && (hasOrigin o (activeDocument ds (d .window)) || ancestorHas (n - 1) ws ds o (d .window)))) f)
+      (ap (ancestorAt (ancestorHas (n - 1) ws ds o) ds o) f)
 
   module _ (d : Document) (e : n ≡ 0 → ⊥) (f : heldBy d ≡ above ws ds v) where
     abbrev further : Bool

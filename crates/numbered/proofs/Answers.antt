@@ -10,11 +10,11 @@ use Rattle.sorted.proofs.Lookup.{at-key}
 use Rattle.tables.specs.Tables.{documents, cookies, inputs, pendingDNS, pendingRequests, sts, keyOf, cmp, Tables}
 use Rattle.tables.specs.Labels.{key, document}
 use Rattle.tables.specs.Rows.{sameHost}
-use Rattle.wim.specs.Nouns.{WindowNumber, Address, Protocol, Plain, Secure, Url, Cookie, Matching, Reference, Req, Xhr, Keyless, Keyed, Script, ScriptState, Body, Number, Page, Answer, DnsAnswer, Document, Question, Waiting, NoRequest, Mismatch}
+use Rattle.wim.specs.Nouns.{WindowNumber, Address, Protocol, Plain, Secure, Url, Cookie, Matching, Reference, Req, Xhr, Keyless, Keyed, Body, Number, Page, Answer, DnsAnswer, Document, Question, Waiting, NoRequest, Mismatch}
 use Rattle.wim.specs.Walks.{activeAmong}
 use Rattle.wim.specs.Program.{Program, observed, ask, history, under, reached, listening, arrived, question, refuseUnless, run}
 use Rattle.wim.specs.History.{placeOf}
-use Rattle.wim.specs.Response.{actOnHeaders, whereTo, load, arrive, answerWindow, answerScript, answerReached, processResponse}
+use Rattle.wim.specs.Response.{actOnHeaders, whereTo, Course, followed, loaded, handed, nothingMore, windowCourse, scriptCourse, courseOf, takes, processResponse}
 use Rattle.wim.specs.Main.{encryptedAnswer, plainAnswer, goOut, resolved}
 use Rattle.tables.proofs.Update.{linear}
 use Rattle.numbered.proofs.Once.{once-document, once-out}
@@ -26,38 +26,37 @@ module _ {a : Tables} where
   orderly-headers : (w : Waiting) (x : Answer) (new : List Cookie) (p : Program) → Orderly a p → Orderly a (actOnHeaders w x new p)
   orderly-headers w x new p g = orderly-cut pendingRequests _ _ refl (orderly-edit cookies _ _ (λ r i. tt) (orderly-edit sts _ p (λ r i. tt) g))
 
-  -- a new document, with a number of its own
-  orderly-load : (v : WindowNumber) (w : Waiting) (x : Answer) (new : List Cookie) (script : Script) (state : ScriptState) → Orderly a (load v w x new script state)
-  unfolding load
-  orderly-load v w x new script state =
-      orderly-ask (history v) _ (λ ds. orderly-ask (under _) _ (λ gone. orderly-headers w x new _ (orderly-bring document _ (λ n fresh. orderly-remove gone _
-      (orderly-revise _ _ (stays-active v (placeOf (activeAmong ds)) false) (λ b K.
-      ends-edit documents _ _ b (ends-done _ _ (once-document b (once-kept K) _ (new-document K n fresh)))))))))
+  -- a new document has a number of its own
+  orderly-takes : (c : Course) (w : Waiting) (x : Answer) → Orderly a (takes c w x)
+  unfolding takes
+  orderly-takes (followed u) w x = orderly-send _
+  orderly-takes (loaded v ds gone script state) w x = orderly-bring document _ (λ n fresh. orderly-remove gone _
+      (orderly-revise _ _ (stays-active v (placeOf (activeAmong ds)) false) (λ b K. ends-edit documents _ _ b (ends-done _ _ (once-document b (once-kept K) _ (new-document K n fresh))))))
+  orderly-takes (handed d earlier m) w x = orderly-edit inputs _ _ (λ r i. tt) (orderly-done none)
+  orderly-takes nothingMore w x = orderly-done none
 
-  orderly-arrive : (v : WindowNumber) (w : Waiting) (x : Answer) (new : List Cookie) (body : Body) → Orderly a (arrive v w x new body)
-  unfolding arrive
-  orderly-arrive v w x new (Number m) = orderly-headers w x new _ (orderly-done none)
-  orderly-arrive v w x new (Page script state) = orderly-load v w x new script state
+  module _ (go : Course → Program) (g : (c : Course) → Orderly a (go c)) where
+    orderly-window-course : (v : WindowNumber) (found : Option WindowNumber) (to : Option Url) (body : Body) → Orderly a (windowCourse v found to body go)
+    unfolding windowCourse
+    orderly-window-course v none to body = g nothingMore
+    orderly-window-course v (some top) (some u) body = g (followed u)
+    orderly-window-course v (some top) none (Number m) = g nothingMore
+    orderly-window-course v (some top) none (Page script state) = orderly-ask (history v) _ (λ ds. orderly-ask (under _) _ (λ gone. g (loaded v ds gone script state)))
 
-  orderly-window-answer : (v : WindowNumber) (w : Waiting) (x : Answer) (new : List Cookie) (u : Option Url) → Orderly a (answerWindow v w x new u)
-  unfolding answerWindow
-  orderly-window-answer v w x new none = orderly-arrive v w x new (x .body)
-  orderly-window-answer v w x new (some u) = orderly-headers w x new _ (orderly-send _)
+    orderly-script-course : (m : Matching) (to : Option Url) (found : Option Document) → Orderly a (scriptCourse m to found go)
+    unfolding scriptCourse
+    orderly-script-course m (some u) found = g nothingMore
+    orderly-script-course m none none = g nothingMore
+    orderly-script-course m none (some d) = orderly-ask (arrived (d .number)) _ (λ earlier. g (handed d earlier m))
 
-  orderly-script-answer : (w : Waiting) (x : Answer) (new : List Cookie) (m : Matching) (u : Option Url) (d : Option Document) → Orderly a (answerScript w x new m u d)
-  unfolding answerScript
-  orderly-script-answer w x new m (some u) d = orderly-headers w x new _ (orderly-done none)
-  orderly-script-answer w x new m none none = orderly-headers w x new _ (orderly-done none)
-  orderly-script-answer w x new m none (some d) = orderly-ask (arrived (d .number)) _ (λ before. orderly-headers w x new _ (orderly-edit inputs _ _ (λ r i. tt) (orderly-done none)))
+    orderly-course : (r : Reference) (x : Answer) → Orderly a (courseOf r x go)
+    unfolding courseOf
+    orderly-course (Req v) x = orderly-ask (reached v) _ (λ found. orderly-window-course v found (whereTo (x .status) (x .location)) (x .body))
+    orderly-course (Xhr n m) x = orderly-ask (listening n) _ (orderly-script-course m (whereTo (x .status) (x .location)))
 
   orderly-response : (r : Reference) (w : Waiting) (x : Answer) (new : List Cookie) → Orderly a (processResponse r w x new)
-  unfolding processResponse answerReached
-  orderly-response (Req v) w x new = orderly-ask (reached v) (answerReached v w x new) go
-    where
-      go : (top : Option WindowNumber) → Orderly a (answerReached v w x new top)
-      go none = orderly-headers w x new _ (orderly-done none)
-      go (some top) = orderly-window-answer v w x new (whereTo (x .status) (x .location))
-  orderly-response (Xhr n m) w x new = orderly-ask (listening n) _ (orderly-script-answer w x new m (whereTo (x .status) (x .location)))
+  unfolding processResponse
+  orderly-response r w x new = orderly-course _ (λ c. orderly-headers w x new _ (orderly-takes c w x)) r x
 
   pub orderly-encrypted : (x : Answer) (new : List Cookie) (found : Option Waiting) → Orderly a (encryptedAnswer x new found)
   unfolding encryptedAnswer

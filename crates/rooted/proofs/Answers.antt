@@ -11,7 +11,7 @@ use Rattle.tables.specs.Tables.{windows, documents, inputs, Tables}
 use Rattle.wim.specs.Nouns.{WindowNumber, DocumentNumber, Url, Cookie, Reference, Req, Xhr, Matching, Script, ScriptState, Body, Number, Page, Answer, Answered, Waiting, Document}
 use Rattle.wim.specs.Walks.{documentsOf, activeAmong, documentNumbered, steps, isReached}
 use Rattle.wim.specs.Program.{observed, reached, listening, when, listens}
-use Rattle.wim.specs.Response.{whereTo, upTo, newDocument, load, arrive, answerWindow, answerScript, answerReached, processResponse}
+use Rattle.wim.specs.Response.{actOnHeaders, whereTo, upTo, newDocument, windowCourse, scriptCourse, courseOf, takes, processResponse}
 use Rattle.wim.specs.Invariant.{Numbered}
 use Rattle.wim.proofs.Numbers.{found-document}
 use Rattle.rooted.proofs.Stands.{Stands}
@@ -24,28 +24,22 @@ use Rattle.rooted.proofs.Blocks.{whole-filed}
 
 module _ (b : Tables) (N : Numbered b) (S : Stands (b windows) (b documents) (b inputs)) where
   -- A WINDOW'S ANSWER
-  kept-load : (v : WindowNumber) (w : Waiting) (a : Answer) (new : List Cookie) (script : Script) (state : ScriptState) (top : WindowNumber) → observed (reached v) b ≡ some top → Keeps Whole (Fresh b) (load v w a new script state) b
-  unfolding load observed
+  kept-load : (v : WindowNumber) (w : Waiting) (a : Answer) (new : List Cookie) (script : Script) (state : ScriptState) (top : WindowNumber) → observed (reached v) b ≡ some top
+      → Keeps Whole (Fresh b) (windowCourse v (some top) none (Page script state) (λ c. actOnHeaders w a new (takes c w a))) b
+  unfolding windowCourse takes observed
   kept-load v w a new script state top e n f l =
       let r = reached-row (b windows) (b documents) steps v top e in
       let o = activeAmong (documentsOf (b documents) v) in
       stands-load (b windows) (b documents) (b inputs) S (N .sorted windows) (N .sorted documents) (N .documents-once) v (r .0) (r .1) o refl
       (newDocument v (suc (length (upTo o (documentsOf (b documents) v)))) n w a script state) refl refl refl (λ d i p. new-document b n f d i (ap (λ (m : DocumentNumber). m .0) p))
 
-  kept-arrive : (v : WindowNumber) (w : Waiting) (a : Answer) (new : List Cookie) (body : Body) (top : WindowNumber) → observed (reached v) b ≡ some top → Keeps Whole (Fresh b) (arrive v w a new body) b
-  unfolding arrive
-  kept-arrive v w a new (Number m) top e = λ l. S
-  kept-arrive v w a new (Page script state) top e = kept-load v w a new script state top e
-
-  kept-window : (v : WindowNumber) (w : Waiting) (a : Answer) (new : List Cookie) (o : Option Url) (top : WindowNumber) → observed (reached v) b ≡ some top → Keeps Whole (Fresh b) (answerWindow v w a new o) b
-  unfolding answerWindow
-  kept-window v w a new none top e = kept-arrive v w a new (a .body) top e
-  kept-window v w a new (some u) top e = kept-send (Fresh b) _ _ (λ l. S)
-
-  kept-reached : (v : WindowNumber) (w : Waiting) (a : Answer) (new : List Cookie) (o : Option WindowNumber) → observed (reached v) b ≡ o → Keeps Whole (Fresh b) (answerReached v w a new o) b
-  unfolding answerReached
-  kept-reached v w a new none e = λ l. S
-  kept-reached v w a new (some top) e = kept-window v w a new (whereTo (a .status) (a .location)) top e
+  kept-window : (v : WindowNumber) (w : Waiting) (a : Answer) (new : List Cookie) (found : Option WindowNumber) (to : Option Url) (body : Body) → observed (reached v) b ≡ found
+      → Keeps Whole (Fresh b) (windowCourse v found to body (λ c. actOnHeaders w a new (takes c w a))) b
+  unfolding windowCourse takes
+  kept-window v w a new none to body e = λ l. S
+  kept-window v w a new (some top) (some u) body e = kept-send (Fresh b) _ _ (λ l. S)
+  kept-window v w a new (some top) none (Number m) e = λ l. S
+  kept-window v w a new (some top) none (Page script state) e = kept-load v w a new script state top e
 
   -- AN XHR'S ANSWER
   listener-in : (n : DocumentNumber) (d : Document) → observed (listening n) b ≡ some d → In d (b documents)
@@ -60,14 +54,14 @@ module _ (b : Tables) (N : Numbered b) (S : Stands (b windows) (b documents) (b 
       go none f e = never (cc)
       go (some x) f e = one x (x .active && isReached (b windows) (b documents) (x .window)) f e
 
-  kept-answered : (w : Waiting) (a : Answer) (new : List Cookie) (matching : Matching) (u : Option Url) (o : Option Document)
-      → ((d : Document) → o ≡ some d → In d (b documents)) → Keeps Whole (Fresh b) (answerScript w a new matching u o) b
-  unfolding answerScript observed
-  kept-answered w a new matching (some u) o h = λ l. S
-  kept-answered w a new matching none none h = λ l. S
-  kept-answered w a new matching none (some d) h = λ l. whole-filed b N S b (untouched b) d (h d refl) (Answered matching (a .body))
+  kept-script : (w : Waiting) (a : Answer) (new : List Cookie) (matching : Matching) (to : Option Url) (found : Option Document)
+      → ((d : Document) → found ≡ some d → In d (b documents)) → Keeps Whole (Fresh b) (scriptCourse matching to found (λ c. actOnHeaders w a new (takes c w a))) b
+  unfolding scriptCourse takes observed
+  kept-script w a new matching (some u) found h = λ l. S
+  kept-script w a new matching none none h = λ l. S
+  kept-script w a new matching none (some d) h = λ l. whole-filed b N S b (untouched b) d (h d refl) (Answered matching (a .body))
 
   pub kept-response : (ref : Reference) (w : Waiting) (a : Answer) (new : List Cookie) → Keeps Whole (Fresh b) (processResponse ref w a new) b
-  unfolding processResponse
-  kept-response (Req v) w a new = kept-reached v w a new (observed (reached v) b) refl
-  kept-response (Xhr n matching) w a new = kept-answered w a new matching (whereTo (a .status) (a .location)) (observed (listening n) b) (listener-in n)
+  unfolding processResponse courseOf
+  kept-response (Req v) w a new = kept-window v w a new (observed (reached v) b) (whereTo (a .status) (a .location)) (a .body) refl
+  kept-response (Xhr n matching) w a new = kept-script w a new matching (whereTo (a .status) (a .location)) (observed (listening n) b) (listener-in n)

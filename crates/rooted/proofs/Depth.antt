@@ -9,7 +9,7 @@ use lib.ListN.{length}
 use Rattle.sorted.specs.Table.{In}
 use Rattle.sorted.proofs.Never.{never}
 use Rattle.wim.specs.Nouns.{WindowNumber, Window, Document}
-use Rattle.wim.specs.Walks.{Above, missing, topmost, heldBy, above, climb, topAbove}
+use Rattle.wim.specs.Walks.{Above, missing, topmost, heldBy, above, topAt, topAbove}
 use Rattle.wim.proofs.Pigeon.{pigeon}
 use Rattle.wim.proofs.Walks.{top-more}
 use Rattle.rooted.proofs.Stands.{row-in}
@@ -39,7 +39,7 @@ module _ (ws : List Window) (ds : List Document) where
   unfolding topAbove
   heights zero v h m l = go (above ws ds v) refl (h .1 .1)
     where
-      go : (u : Above) → above ws ds v ≡ u → climb none (some v) (λ d. topAbove zero ws ds (d .window)) u ≡ some (h .1 .0) → (r : Window) × In r ws × High m (r .number)
+      go : (u : Above) → above ws ds v ≡ u → topAt (topAbove zero ws ds) v u ≡ some (h .1 .0) → (r : Window) × In r ws × High m (r .number)
       go missing e f = never (cc)
       go topmost e f =
           let z = topmost-row ws ds v e in
@@ -49,7 +49,7 @@ module _ (ws : List Window) (ds : List Document) where
       go (heldBy d) e f = never (cc)
   heights (suc n) v h m l = go (above ws ds v) refl (h .0) (h .1 .1) (heights n) (decLe m n)
     where
-      go : (u : Above) → above ws ds v ≡ u → climb none (some v) (λ d. topAbove n ws ds (d .window)) u ≡ none → climb none (some v) (λ d. topAbove (suc n) ws ds (d .window)) u ≡ some (h .1 .0)
+      go : (u : Above) → above ws ds v ≡ u → topAt (topAbove n ws ds) v u ≡ none → topAt (topAbove (suc n) ws ds) v u ≡ some (h .1 .0)
           → ((x : WindowNumber) → High n x → (m : ℕ) → m ≤ n → (r : Window) × In r ws × High m (r .number)) → Dec (m ≤ n) → (r : Window) × In r ws × High m (r .number)
       go missing e f g ih c = never (cc)
       go topmost e f g ih c = never (cc)

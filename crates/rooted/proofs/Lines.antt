@@ -10,7 +10,7 @@ use Rattle.sorted.proofs.Never.{never}
 use Rattle.tables.specs.Rows.{oneOf}
 use Rattle.wim.specs.Nouns.{WindowNumber, DocumentNumber, Window, Document, Parent, Top, Under}
 use Rattle.wim.proofs.Walks.{top-more}
-use Rattle.wim.specs.Walks.{Above, missing, topmost, heldBy, aboveDocument, aboveParent, aboveRow, above, climb, windowNumbered, documentNumbered, topAbove, reachedFrom, isUnder}
+use Rattle.wim.specs.Walks.{Above, missing, topmost, heldBy, aboveDocument, aboveParent, aboveRow, above, topAt, reachedAt, underAt, windowNumbered, documentNumbered, topAbove, reachedFrom, isUnder}
 use Rattle.sorted.proofs.Tests.{or-one}
 
 module _ (ws : List Window) (ds : List Document) where
@@ -62,15 +62,15 @@ module _ (ws : List Window) (ds : List Document) where
   -- the window above has the same top-level window, with a step less
   pub top-up : (n : ℕ) (v t : WindowNumber) (d : Document) → above ws ds v ≡ heldBy d → topAbove (suc n) ws ds v ≡ some t → topAbove n ws ds (d .window) ≡ some t
   unfolding topAbove
-  top-up n v t d h e = sym (ap (climb none (some v) (λ d. topAbove n ws ds (d .window))) h) ∙ e
+  top-up n v t d h e = sym (ap (topAt (topAbove n ws ds) v) h) ∙ e
 
   pub up-top : (n : ℕ) (v t : WindowNumber) (d : Document) → above ws ds v ≡ heldBy d → topAbove n ws ds (d .window) ≡ some t → topAbove (suc n) ws ds v ≡ some t
   unfolding topAbove
-  up-top n v t d h e = ap (climb none (some v) (λ d. topAbove n ws ds (d .window))) h ∙ e
+  up-top n v t d h e = ap (topAt (topAbove n ws ds) v) h ∙ e
 
   pub top-itself : (n : ℕ) (v : WindowNumber) → above ws ds v ≡ topmost → topAbove (suc n) ws ds v ≡ some v
   unfolding topAbove
-  top-itself n v h = ap (climb none (some v) (λ d. topAbove n ws ds (d .window))) h
+  top-itself n v h = ap (topAt (topAbove n ws ds) v) h
 
   -- a reached window has a row
   pub reached-row : (n : ℕ) (v t : WindowNumber) → reachedFrom n ws ds v ≡ some t → (r : Window) × (windowNumbered ws v ≡ some r)
@@ -78,7 +78,7 @@ module _ (ws : List Window) (ds : List Document) where
   reached-row zero v t e = never (cc)
   reached-row (suc n) v t e = go (above ws ds v) refl e
     where
-      go : (u : Above) → above ws ds v ≡ u → climb none (some v) (λ d. cond (d .active) (reachedFrom n ws ds (d .window)) none) u ≡ some t → (r : Window) × (windowNumbered ws v ≡ some r)
+      go : (u : Above) → above ws ds v ≡ u → reachedAt (reachedFrom n ws ds) v u ≡ some t → (r : Window) × (windowNumbered ws v ≡ some r)
       go missing f e = never (cc)
       go topmost f e = let z = topmost-row v f in (z .0, z .1)
       go (heldBy d) f e = let z = held-row v d f in (z .0, z .2)
@@ -90,15 +90,15 @@ module _ (ws : List Window) (ds : List Document) where
   under-settled gone zero v t e = never (cc)
   under-settled gone (suc n) v t e = go (above ws ds v) e (under-settled gone n)
     where
-      go : (u : Above) → climb none (some v) (λ d. topAbove n ws ds (d .window)) u ≡ some t → ((x s : WindowNumber) → topAbove n ws ds x ≡ some s → isUnder n ws ds gone x ≡ isUnder (suc n) ws ds gone x)
-          → climb false false (λ d. oneOf (d .number) gone || isUnder n ws ds gone (d .window)) u ≡ climb false false (λ d. oneOf (d .number) gone || isUnder (suc n) ws ds gone (d .window)) u
+      go : (u : Above) → topAt (topAbove n ws ds) v u ≡ some t → ((x s : WindowNumber) → topAbove n ws ds x ≡ some s → isUnder n ws ds gone x ≡ isUnder (suc n) ws ds gone x)
+          → underAt (isUnder n ws ds gone) gone u ≡ underAt (isUnder (suc n) ws ds gone) gone u
       go missing e ih = never (cc)
       go topmost e ih = refl
       go (heldBy d) e ih = ap (λ (b : Bool). oneOf (d .number) gone || b) (ih (d .window) t e)
 
   pub under-up : (gone : List DocumentNumber) (n : ℕ) (v : WindowNumber) (d : Document) → above ws ds v ≡ heldBy d → isUnder (suc n) ws ds gone v ≡ (oneOf (d .number) gone || isUnder n ws ds gone (d .window))
   unfolding isUnder
-  under-up gone n v d h = ap (climb false false (λ d. oneOf (d .number) gone || isUnder n ws ds gone (d .window))) h
+  under-up gone n v d h = ap (underAt (isUnder n ws ds gone) gone) h
 
   -- no window stands under documents of its own
   module _ (gone : List DocumentNumber) (v : WindowNumber) (own : (n : DocumentNumber) (d : Document) → documentNumbered ds n ≡ some d → oneOf (d .number) gone ≡ true → d .window ≡ v) where
@@ -112,7 +112,7 @@ module _ (ws : List Window) (ds : List Document) where
         further zero d q e ih = never (cc)
         further (suc k) d q e ih = top-more ws ds k (suc k) v t (omega arith) (ih k (d .window) t q e)
 
-        go : (a : Above) → above ws ds x ≡ a → climb false false (λ d. oneOf (d .number) gone || isUnder m ws ds gone (d .window)) a ≡ true → climb none (some x) (λ d. topAbove k ws ds (d .window)) a ≡ some t
+        go : (a : Above) → above ws ds x ≡ a → underAt (isUnder m ws ds gone) gone a ≡ true → topAt (topAbove k ws ds) x a ≡ some t
             → ((k : ℕ) (x t : WindowNumber) → isUnder m ws ds gone x ≡ true → topAbove (suc k) ws ds x ≡ some t → topAbove k ws ds v ≡ some t) → topAbove k ws ds v ≡ some t
         go missing f u e ih = never (cc)
         go topmost f u e ih = never (cc)
@@ -138,7 +138,7 @@ module _ (ws vs : List Window) (ds es : List Document) (P : WindowNumber → Typ
   top-follows zero v t p e = never (cc)
   top-follows (suc k) v t p e = go (above ws ds v) refl e (top-follows k)
     where
-      go : (u : Above) → above ws ds v ≡ u → climb none (some v) (λ d. topAbove k ws ds (d .window)) u ≡ some t
+      go : (u : Above) → above ws ds v ≡ u → topAt (topAbove k ws ds) v u ≡ some t
           → ((x s : WindowNumber) → P x → topAbove k ws ds x ≡ some s → topAbove k vs es x ≡ some s) → topAbove (suc k) vs es v ≡ some t
       go missing f e ih = never (cc)
       go topmost f e ih = let z = topmost-row ws ds v f in top-itself vs es k v (is-topmost vs es v (z .0) (row v (z .0) p (z .1)) (z .2)) ∙ e

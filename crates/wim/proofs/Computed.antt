@@ -39,38 +39,38 @@ use Rattle.wim.specs.Points.Answering.{answering}
 use Rattle.wim.specs.Points.Refusing.{refusing}
 
 pub the-points-hold : allHold points ≡ true
-unfolding Answers.digitAt At.termAt At.termsAt At.stringAt At.numberAt At.markAt Decode.inside Decode.one Decode.end Decode.upTo Decode.perhaps Decode.atomOf Decode.either Decode.maps Decode.same Decode.word Decode.means Decode.numeral Decode.optionally Decode.optionalOf Decode.labelledOf Limits.shallow Limits.shallows Limits.endingOf Limits.wholeOf Read.run Read.number Read.mark Read.bytes Read.string Read.read Read.reads Read.term Read.terms Term.digits Term.decimal Term.write Term.writes Term.levels Term.levelsIn Encode.numberTerm Encode.optionalTerm Encode.each Encode.labelled Encode.joins Puts.over Table.find Table.keep Table.insert Table.lower Table.has Labels.clean Labels.isFresh Events.eventOf Items.unless Items.moreHeaders Texts.itemIn Rows.jar Cookies.cookieMerge Cookies.addCookies History.moved History.navBack History.navForward LocalSteps.isLocal LocalSteps.home LocalSteps.topOf LocalSteps.stands LocalSteps.hosts LocalSteps.names Main.urlbar Main.reload Main.forward Main.back Main.closeCorrupt Main.encryptedAnswer Main.plainAnswer Main.goOut Main.resolved Main.program Navigable.ancestorHas Navigable.navigableDirectly Navigable.follows Navigable.navigableMask Navigable.navigableSize Program.observed Program.run Response.load Response.arrive Response.answerWindow Response.answerScript Response.answerReached Response.processResponse Run.playFrom Run.play Script.href Script.iframe Script.form Script.setting Script.xhr Script.close Script.deliver Script.postMessage Script.command Script.runScript Sending.send Step.allFresh Step.fits Step.stepTables Step.step Walks.documentsOf Walks.activeDocument Walks.windowNumbered Walks.documentNumbered Walks.above Walks.topAbove Walks.reachedFrom Walks.isUnder Walks.removal Wire.rehearse Shown.tree Shown.shownTo Shown.whatIsShown
+unfolding Answers.digitAt At.termAt At.termsAt At.stringAt At.numberAt At.markAt Decode.inside Decode.one Decode.end Decode.upTo Decode.perhaps Decode.atomOf Decode.either Decode.maps Decode.same Decode.word Decode.means Decode.numeral Decode.optionally Decode.optionalOf Decode.labelledOf Limits.shallow Limits.shallows Limits.endingOf Limits.wholeOf Read.run Read.number Read.mark Read.bytes Read.string Read.read Read.reads Read.term Read.terms Term.digits Term.decimal Term.write Term.writes Term.levels Term.levelsIn Encode.numberTerm Encode.optionalTerm Encode.each Encode.labelled Encode.joins Puts.over Table.find Table.keep Table.insert Table.lower Table.has Labels.clean Labels.isFresh Events.eventOf Items.unless Items.moreHeaders Texts.itemIn Rows.jar Cookies.cookieMerge Cookies.addCookies History.moved History.navBack History.navForward LocalSteps.isLocal LocalSteps.home LocalSteps.topOf LocalSteps.stands LocalSteps.hosts LocalSteps.names Main.urlbar Main.reload Main.forward Main.back Main.closeCorrupt Main.encryptedAnswer Main.plainAnswer Main.goOut Main.resolved Main.program Navigable.ancestorHas Navigable.navigableDirectly Navigable.follows Navigable.navigableMask Navigable.navigableSize Program.observed Program.run Response.windowCourse Response.scriptCourse Response.courseOf Response.takes Response.processResponse Run.playFrom Run.play Script.href Script.iframe Script.form Script.setting Script.xhr Script.close Script.deliver Script.postMessage Script.command Script.runScript Sending.send Step.allFresh Step.fits Step.stepTables Step.step Walks.documentsOf Walks.activeDocument Walks.windowNumbered Walks.documentNumbered Walks.above Walks.topAbove Walks.reachedFrom Walks.isUnder Walks.removal Wire.rehearse Shown.tree Shown.shownTo Shown.whatIsShown
 the-points-hold = refl
 
 pub the-example-prints : prints example ≡ true
-unfolding Answers.digitAt At.termAt At.termsAt At.stringAt At.numberAt At.markAt Decode.inside Decode.one Decode.end Decode.upTo Decode.perhaps Decode.atomOf Decode.either Decode.maps Decode.same Decode.word Decode.means Decode.numeral Decode.optionally Decode.optionalOf Decode.labelledOf Limits.shallow Limits.shallows Limits.endingOf Limits.wholeOf Read.run Read.number Read.mark Read.bytes Read.string Read.read Read.reads Read.term Read.terms Term.digits Term.decimal Term.write Term.writes Term.levels Term.levelsIn Encode.numberTerm Encode.optionalTerm Encode.each Encode.labelled Encode.joins Puts.over Table.find Table.keep Table.insert Table.lower Table.has Labels.clean Labels.isFresh Events.eventOf Items.unless Items.moreHeaders Texts.itemIn Rows.jar Cookies.cookieMerge Cookies.addCookies History.moved History.navBack History.navForward LocalSteps.isLocal LocalSteps.home LocalSteps.topOf LocalSteps.stands LocalSteps.hosts LocalSteps.names Main.urlbar Main.reload Main.forward Main.back Main.closeCorrupt Main.encryptedAnswer Main.plainAnswer Main.goOut Main.resolved Main.program Navigable.ancestorHas Navigable.navigableDirectly Navigable.follows Navigable.navigableMask Navigable.navigableSize Program.observed Program.run Response.load Response.arrive Response.answerWindow Response.answerScript Response.answerReached Response.processResponse Run.playFrom Run.play Script.href Script.iframe Script.form Script.setting Script.xhr Script.close Script.deliver Script.postMessage Script.command Script.runScript Sending.send Step.allFresh Step.fits Step.stepTables Step.step Walks.documentsOf Walks.activeDocument Walks.windowNumbered Walks.documentNumbered Walks.above Walks.topAbove Walks.reachedFrom Walks.isUnder Walks.removal Wire.rehearse Shown.tree Shown.shownTo Shown.whatIsShown
+unfolding Answers.digitAt At.termAt At.termsAt At.stringAt At.numberAt At.markAt Decode.inside Decode.one Decode.end Decode.upTo Decode.perhaps Decode.atomOf Decode.either Decode.maps Decode.same Decode.word Decode.means Decode.numeral Decode.optionally Decode.optionalOf Decode.labelledOf Limits.shallow Limits.shallows Limits.endingOf Limits.wholeOf Read.run Read.number Read.mark Read.bytes Read.string Read.read Read.reads Read.term Read.terms Term.digits Term.decimal Term.write Term.writes Term.levels Term.levelsIn Encode.numberTerm Encode.optionalTerm Encode.each Encode.labelled Encode.joins Puts.over Table.find Table.keep Table.insert Table.lower Table.has Labels.clean Labels.isFresh Events.eventOf Items.unless Items.moreHeaders Texts.itemIn Rows.jar Cookies.cookieMerge Cookies.addCookies History.moved History.navBack History.navForward LocalSteps.isLocal LocalSteps.home LocalSteps.topOf LocalSteps.stands LocalSteps.hosts LocalSteps.names Main.urlbar Main.reload Main.forward Main.back Main.closeCorrupt Main.encryptedAnswer Main.plainAnswer Main.goOut Main.resolved Main.program Navigable.ancestorHas Navigable.navigableDirectly Navigable.follows Navigable.navigableMask Navigable.navigableSize Program.observed Program.run Response.windowCourse Response.scriptCourse Response.courseOf Response.takes Response.processResponse Run.playFrom Run.play Script.href Script.iframe Script.form Script.setting Script.xhr Script.close Script.deliver Script.postMessage Script.command Script.runScript Sending.send Step.allFresh Step.fits Step.stepTables Step.step Walks.documentsOf Walks.activeDocument Walks.windowNumbered Walks.documentNumbered Walks.above Walks.topAbove Walks.reachedFrom Walks.isUnder Walks.removal Wire.rehearse Shown.tree Shown.shownTo Shown.whatIsShown
 the-example-prints = refl
 
 pub seven-for-want-of-room : allTrue room ≡ true
-unfolding Answers.digitAt At.termAt At.termsAt At.stringAt At.numberAt At.markAt Decode.inside Decode.one Decode.end Decode.upTo Decode.perhaps Decode.atomOf Decode.either Decode.maps Decode.same Decode.word Decode.means Decode.numeral Decode.optionally Decode.optionalOf Decode.labelledOf Limits.shallow Limits.shallows Limits.endingOf Limits.wholeOf Read.run Read.number Read.mark Read.bytes Read.string Read.read Read.reads Read.term Read.terms Term.digits Term.decimal Term.write Term.writes Term.levels Term.levelsIn Encode.numberTerm Encode.optionalTerm Encode.each Encode.labelled Encode.joins Puts.over Table.find Table.keep Table.insert Table.lower Table.has Labels.clean Labels.isFresh Events.eventOf Items.unless Items.moreHeaders Texts.itemIn Rows.jar Cookies.cookieMerge Cookies.addCookies History.moved History.navBack History.navForward LocalSteps.isLocal LocalSteps.home LocalSteps.topOf LocalSteps.stands LocalSteps.hosts LocalSteps.names Main.urlbar Main.reload Main.forward Main.back Main.closeCorrupt Main.encryptedAnswer Main.plainAnswer Main.goOut Main.resolved Main.program Navigable.ancestorHas Navigable.navigableDirectly Navigable.follows Navigable.navigableMask Navigable.navigableSize Program.observed Program.run Response.load Response.arrive Response.answerWindow Response.answerScript Response.answerReached Response.processResponse Run.playFrom Run.play Script.href Script.iframe Script.form Script.setting Script.xhr Script.close Script.deliver Script.postMessage Script.command Script.runScript Sending.send Step.allFresh Step.fits Step.stepTables Step.step Walks.documentsOf Walks.activeDocument Walks.windowNumbered Walks.documentNumbered Walks.above Walks.topAbove Walks.reachedFrom Walks.isUnder Walks.removal Wire.rehearse Shown.tree Shown.shownTo Shown.whatIsShown
+unfolding Answers.digitAt At.termAt At.termsAt At.stringAt At.numberAt At.markAt Decode.inside Decode.one Decode.end Decode.upTo Decode.perhaps Decode.atomOf Decode.either Decode.maps Decode.same Decode.word Decode.means Decode.numeral Decode.optionally Decode.optionalOf Decode.labelledOf Limits.shallow Limits.shallows Limits.endingOf Limits.wholeOf Read.run Read.number Read.mark Read.bytes Read.string Read.read Read.reads Read.term Read.terms Term.digits Term.decimal Term.write Term.writes Term.levels Term.levelsIn Encode.numberTerm Encode.optionalTerm Encode.each Encode.labelled Encode.joins Puts.over Table.find Table.keep Table.insert Table.lower Table.has Labels.clean Labels.isFresh Events.eventOf Items.unless Items.moreHeaders Texts.itemIn Rows.jar Cookies.cookieMerge Cookies.addCookies History.moved History.navBack History.navForward LocalSteps.isLocal LocalSteps.home LocalSteps.topOf LocalSteps.stands LocalSteps.hosts LocalSteps.names Main.urlbar Main.reload Main.forward Main.back Main.closeCorrupt Main.encryptedAnswer Main.plainAnswer Main.goOut Main.resolved Main.program Navigable.ancestorHas Navigable.navigableDirectly Navigable.follows Navigable.navigableMask Navigable.navigableSize Program.observed Program.run Response.windowCourse Response.scriptCourse Response.courseOf Response.takes Response.processResponse Run.playFrom Run.play Script.href Script.iframe Script.form Script.setting Script.xhr Script.close Script.deliver Script.postMessage Script.command Script.runScript Sending.send Step.allFresh Step.fits Step.stepTables Step.step Walks.documentsOf Walks.activeDocument Walks.windowNumbered Walks.documentNumbered Walks.above Walks.topAbove Walks.reachedFrom Walks.isUnder Walks.removal Wire.rehearse Shown.tree Shown.shownTo Shown.whatIsShown
 seven-for-want-of-room = refl
 
 pub three-pages : rowsAfter threePages ≡ (2 ∷ 3 ∷ 0 ∷ 0 ∷ 0 ∷ 1 ∷ 1 ∷ 0 ∷ 0 ∷ [])
-unfolding Answers.digitAt At.termAt At.termsAt At.stringAt At.numberAt At.markAt Decode.inside Decode.one Decode.end Decode.upTo Decode.perhaps Decode.atomOf Decode.either Decode.maps Decode.same Decode.word Decode.means Decode.numeral Decode.optionally Decode.optionalOf Decode.labelledOf Limits.shallow Limits.shallows Limits.endingOf Limits.wholeOf Read.run Read.number Read.mark Read.bytes Read.string Read.read Read.reads Read.term Read.terms Term.digits Term.decimal Term.write Term.writes Term.levels Term.levelsIn Encode.numberTerm Encode.optionalTerm Encode.each Encode.labelled Encode.joins Puts.over Table.find Table.keep Table.insert Table.lower Table.has Labels.clean Labels.isFresh Events.eventOf Items.unless Items.moreHeaders Texts.itemIn Rows.jar Cookies.cookieMerge Cookies.addCookies History.moved History.navBack History.navForward LocalSteps.isLocal LocalSteps.home LocalSteps.topOf LocalSteps.stands LocalSteps.hosts LocalSteps.names Main.urlbar Main.reload Main.forward Main.back Main.closeCorrupt Main.encryptedAnswer Main.plainAnswer Main.goOut Main.resolved Main.program Navigable.ancestorHas Navigable.navigableDirectly Navigable.follows Navigable.navigableMask Navigable.navigableSize Program.observed Program.run Response.load Response.arrive Response.answerWindow Response.answerScript Response.answerReached Response.processResponse Run.playFrom Run.play Script.href Script.iframe Script.form Script.setting Script.xhr Script.close Script.deliver Script.postMessage Script.command Script.runScript Sending.send Step.allFresh Step.fits Step.stepTables Step.step Walks.documentsOf Walks.activeDocument Walks.windowNumbered Walks.documentNumbered Walks.above Walks.topAbove Walks.reachedFrom Walks.isUnder Walks.removal Wire.rehearse Shown.tree Shown.shownTo Shown.whatIsShown
+unfolding Answers.digitAt At.termAt At.termsAt At.stringAt At.numberAt At.markAt Decode.inside Decode.one Decode.end Decode.upTo Decode.perhaps Decode.atomOf Decode.either Decode.maps Decode.same Decode.word Decode.means Decode.numeral Decode.optionally Decode.optionalOf Decode.labelledOf Limits.shallow Limits.shallows Limits.endingOf Limits.wholeOf Read.run Read.number Read.mark Read.bytes Read.string Read.read Read.reads Read.term Read.terms Term.digits Term.decimal Term.write Term.writes Term.levels Term.levelsIn Encode.numberTerm Encode.optionalTerm Encode.each Encode.labelled Encode.joins Puts.over Table.find Table.keep Table.insert Table.lower Table.has Labels.clean Labels.isFresh Events.eventOf Items.unless Items.moreHeaders Texts.itemIn Rows.jar Cookies.cookieMerge Cookies.addCookies History.moved History.navBack History.navForward LocalSteps.isLocal LocalSteps.home LocalSteps.topOf LocalSteps.stands LocalSteps.hosts LocalSteps.names Main.urlbar Main.reload Main.forward Main.back Main.closeCorrupt Main.encryptedAnswer Main.plainAnswer Main.goOut Main.resolved Main.program Navigable.ancestorHas Navigable.navigableDirectly Navigable.follows Navigable.navigableMask Navigable.navigableSize Program.observed Program.run Response.windowCourse Response.scriptCourse Response.courseOf Response.takes Response.processResponse Run.playFrom Run.play Script.href Script.iframe Script.form Script.setting Script.xhr Script.close Script.deliver Script.postMessage Script.command Script.runScript Sending.send Step.allFresh Step.fits Step.stepTables Step.step Walks.documentsOf Walks.activeDocument Walks.windowNumbered Walks.documentNumbered Walks.above Walks.topAbove Walks.reachedFrom Walks.isUnder Walks.removal Wire.rehearse Shown.tree Shown.shownTo Shown.whatIsShown
 three-pages = refl
 
 pub later-pages-go : rowsAfter (threePages ++ loadedAfterBack) ≡ (1 ∷ 2 ∷ 0 ∷ 0 ∷ 0 ∷ 0 ∷ 1 ∷ 0 ∷ 0 ∷ [])
-unfolding Answers.digitAt At.termAt At.termsAt At.stringAt At.numberAt At.markAt Decode.inside Decode.one Decode.end Decode.upTo Decode.perhaps Decode.atomOf Decode.either Decode.maps Decode.same Decode.word Decode.means Decode.numeral Decode.optionally Decode.optionalOf Decode.labelledOf Limits.shallow Limits.shallows Limits.endingOf Limits.wholeOf Read.run Read.number Read.mark Read.bytes Read.string Read.read Read.reads Read.term Read.terms Term.digits Term.decimal Term.write Term.writes Term.levels Term.levelsIn Encode.numberTerm Encode.optionalTerm Encode.each Encode.labelled Encode.joins Puts.over Table.find Table.keep Table.insert Table.lower Table.has Labels.clean Labels.isFresh Events.eventOf Items.unless Items.moreHeaders Texts.itemIn Rows.jar Cookies.cookieMerge Cookies.addCookies History.moved History.navBack History.navForward LocalSteps.isLocal LocalSteps.home LocalSteps.topOf LocalSteps.stands LocalSteps.hosts LocalSteps.names Main.urlbar Main.reload Main.forward Main.back Main.closeCorrupt Main.encryptedAnswer Main.plainAnswer Main.goOut Main.resolved Main.program Navigable.ancestorHas Navigable.navigableDirectly Navigable.follows Navigable.navigableMask Navigable.navigableSize Program.observed Program.run Response.load Response.arrive Response.answerWindow Response.answerScript Response.answerReached Response.processResponse Run.playFrom Run.play Script.href Script.iframe Script.form Script.setting Script.xhr Script.close Script.deliver Script.postMessage Script.command Script.runScript Sending.send Step.allFresh Step.fits Step.stepTables Step.step Walks.documentsOf Walks.activeDocument Walks.windowNumbered Walks.documentNumbered Walks.above Walks.topAbove Walks.reachedFrom Walks.isUnder Walks.removal Wire.rehearse Shown.tree Shown.shownTo Shown.whatIsShown
+unfolding Answers.digitAt At.termAt At.termsAt At.stringAt At.numberAt At.markAt Decode.inside Decode.one Decode.end Decode.upTo Decode.perhaps Decode.atomOf Decode.either Decode.maps Decode.same Decode.word Decode.means Decode.numeral Decode.optionally Decode.optionalOf Decode.labelledOf Limits.shallow Limits.shallows Limits.endingOf Limits.wholeOf Read.run Read.number Read.mark Read.bytes Read.string Read.read Read.reads Read.term Read.terms Term.digits Term.decimal Term.write Term.writes Term.levels Term.levelsIn Encode.numberTerm Encode.optionalTerm Encode.each Encode.labelled Encode.joins Puts.over Table.find Table.keep Table.insert Table.lower Table.has Labels.clean Labels.isFresh Events.eventOf Items.unless Items.moreHeaders Texts.itemIn Rows.jar Cookies.cookieMerge Cookies.addCookies History.moved History.navBack History.navForward LocalSteps.isLocal LocalSteps.home LocalSteps.topOf LocalSteps.stands LocalSteps.hosts LocalSteps.names Main.urlbar Main.reload Main.forward Main.back Main.closeCorrupt Main.encryptedAnswer Main.plainAnswer Main.goOut Main.resolved Main.program Navigable.ancestorHas Navigable.navigableDirectly Navigable.follows Navigable.navigableMask Navigable.navigableSize Program.observed Program.run Response.windowCourse Response.scriptCourse Response.courseOf Response.takes Response.processResponse Run.playFrom Run.play Script.href Script.iframe Script.form Script.setting Script.xhr Script.close Script.deliver Script.postMessage Script.command Script.runScript Sending.send Step.allFresh Step.fits Step.stepTables Step.step Walks.documentsOf Walks.activeDocument Walks.windowNumbered Walks.documentNumbered Walks.above Walks.topAbove Walks.reachedFrom Walks.isUnder Walks.removal Wire.rehearse Shown.tree Shown.shownTo Shown.whatIsShown
 later-pages-go = refl
 
 pub closing-keeps : rowsAfter closedWithRows ≡ (0 ∷ 0 ∷ 1 ∷ 1 ∷ 0 ∷ 0 ∷ 0 ∷ 0 ∷ 1 ∷ [])
-unfolding Answers.digitAt At.termAt At.termsAt At.stringAt At.numberAt At.markAt Decode.inside Decode.one Decode.end Decode.upTo Decode.perhaps Decode.atomOf Decode.either Decode.maps Decode.same Decode.word Decode.means Decode.numeral Decode.optionally Decode.optionalOf Decode.labelledOf Limits.shallow Limits.shallows Limits.endingOf Limits.wholeOf Read.run Read.number Read.mark Read.bytes Read.string Read.read Read.reads Read.term Read.terms Term.digits Term.decimal Term.write Term.writes Term.levels Term.levelsIn Encode.numberTerm Encode.optionalTerm Encode.each Encode.labelled Encode.joins Puts.over Table.find Table.keep Table.insert Table.lower Table.has Labels.clean Labels.isFresh Events.eventOf Items.unless Items.moreHeaders Texts.itemIn Rows.jar Cookies.cookieMerge Cookies.addCookies History.moved History.navBack History.navForward LocalSteps.isLocal LocalSteps.home LocalSteps.topOf LocalSteps.stands LocalSteps.hosts LocalSteps.names Main.urlbar Main.reload Main.forward Main.back Main.closeCorrupt Main.encryptedAnswer Main.plainAnswer Main.goOut Main.resolved Main.program Navigable.ancestorHas Navigable.navigableDirectly Navigable.follows Navigable.navigableMask Navigable.navigableSize Program.observed Program.run Response.load Response.arrive Response.answerWindow Response.answerScript Response.answerReached Response.processResponse Run.playFrom Run.play Script.href Script.iframe Script.form Script.setting Script.xhr Script.close Script.deliver Script.postMessage Script.command Script.runScript Sending.send Step.allFresh Step.fits Step.stepTables Step.step Walks.documentsOf Walks.activeDocument Walks.windowNumbered Walks.documentNumbered Walks.above Walks.topAbove Walks.reachedFrom Walks.isUnder Walks.removal Wire.rehearse Shown.tree Shown.shownTo Shown.whatIsShown
+unfolding Answers.digitAt At.termAt At.termsAt At.stringAt At.numberAt At.markAt Decode.inside Decode.one Decode.end Decode.upTo Decode.perhaps Decode.atomOf Decode.either Decode.maps Decode.same Decode.word Decode.means Decode.numeral Decode.optionally Decode.optionalOf Decode.labelledOf Limits.shallow Limits.shallows Limits.endingOf Limits.wholeOf Read.run Read.number Read.mark Read.bytes Read.string Read.read Read.reads Read.term Read.terms Term.digits Term.decimal Term.write Term.writes Term.levels Term.levelsIn Encode.numberTerm Encode.optionalTerm Encode.each Encode.labelled Encode.joins Puts.over Table.find Table.keep Table.insert Table.lower Table.has Labels.clean Labels.isFresh Events.eventOf Items.unless Items.moreHeaders Texts.itemIn Rows.jar Cookies.cookieMerge Cookies.addCookies History.moved History.navBack History.navForward LocalSteps.isLocal LocalSteps.home LocalSteps.topOf LocalSteps.stands LocalSteps.hosts LocalSteps.names Main.urlbar Main.reload Main.forward Main.back Main.closeCorrupt Main.encryptedAnswer Main.plainAnswer Main.goOut Main.resolved Main.program Navigable.ancestorHas Navigable.navigableDirectly Navigable.follows Navigable.navigableMask Navigable.navigableSize Program.observed Program.run Response.windowCourse Response.scriptCourse Response.courseOf Response.takes Response.processResponse Run.playFrom Run.play Script.href Script.iframe Script.form Script.setting Script.xhr Script.close Script.deliver Script.postMessage Script.command Script.runScript Sending.send Step.allFresh Step.fits Step.stepTables Step.step Walks.documentsOf Walks.activeDocument Walks.windowNumbered Walks.documentNumbered Walks.above Walks.topAbove Walks.reachedFrom Walks.isUnder Walks.removal Wire.rehearse Shown.tree Shown.shownTo Shown.whatIsShown
 closing-keeps = refl
 
 -- window 31 shows a page of host 6 under one of host 5: of that it sees the number and the frame, of itself all; window 32 isn't there
 pub child-is-shown : shownIn 31 parentAndChild ≡ text "((((6:window2:30)(((8:document2:30)(((6:window2:31)(((8:document2:31)(3:URL1:P1:61:8()())()(3:URL1:P1:51:7()())1:11:0()()1:T))()))))()))(8:document2:31)1:0()()()())"
-unfolding Answers.digitAt At.termAt At.termsAt At.stringAt At.numberAt At.markAt Decode.inside Decode.one Decode.end Decode.upTo Decode.perhaps Decode.atomOf Decode.either Decode.maps Decode.same Decode.word Decode.means Decode.numeral Decode.optionally Decode.optionalOf Decode.labelledOf Limits.shallow Limits.shallows Limits.endingOf Limits.wholeOf Read.run Read.number Read.mark Read.bytes Read.string Read.read Read.reads Read.term Read.terms Term.digits Term.decimal Term.write Term.writes Term.levels Term.levelsIn Encode.numberTerm Encode.optionalTerm Encode.each Encode.labelled Encode.joins Puts.over Table.find Table.keep Table.insert Table.lower Table.has Labels.clean Labels.isFresh Events.eventOf Items.unless Items.moreHeaders Texts.itemIn Rows.jar Cookies.cookieMerge Cookies.addCookies History.moved History.navBack History.navForward LocalSteps.isLocal LocalSteps.home LocalSteps.topOf LocalSteps.stands LocalSteps.hosts LocalSteps.names Main.urlbar Main.reload Main.forward Main.back Main.closeCorrupt Main.encryptedAnswer Main.plainAnswer Main.goOut Main.resolved Main.program Navigable.ancestorHas Navigable.navigableDirectly Navigable.follows Navigable.navigableMask Navigable.navigableSize Program.observed Program.run Response.load Response.arrive Response.answerWindow Response.answerScript Response.answerReached Response.processResponse Run.playFrom Run.play Script.href Script.iframe Script.form Script.setting Script.xhr Script.close Script.deliver Script.postMessage Script.command Script.runScript Sending.send Step.allFresh Step.fits Step.stepTables Step.step Walks.documentsOf Walks.activeDocument Walks.windowNumbered Walks.documentNumbered Walks.above Walks.topAbove Walks.reachedFrom Walks.isUnder Walks.removal Wire.rehearse Shown.tree Shown.shownTo Shown.whatIsShown
+unfolding Answers.digitAt At.termAt At.termsAt At.stringAt At.numberAt At.markAt Decode.inside Decode.one Decode.end Decode.upTo Decode.perhaps Decode.atomOf Decode.either Decode.maps Decode.same Decode.word Decode.means Decode.numeral Decode.optionally Decode.optionalOf Decode.labelledOf Limits.shallow Limits.shallows Limits.endingOf Limits.wholeOf Read.run Read.number Read.mark Read.bytes Read.string Read.read Read.reads Read.term Read.terms Term.digits Term.decimal Term.write Term.writes Term.levels Term.levelsIn Encode.numberTerm Encode.optionalTerm Encode.each Encode.labelled Encode.joins Puts.over Table.find Table.keep Table.insert Table.lower Table.has Labels.clean Labels.isFresh Events.eventOf Items.unless Items.moreHeaders Texts.itemIn Rows.jar Cookies.cookieMerge Cookies.addCookies History.moved History.navBack History.navForward LocalSteps.isLocal LocalSteps.home LocalSteps.topOf LocalSteps.stands LocalSteps.hosts LocalSteps.names Main.urlbar Main.reload Main.forward Main.back Main.closeCorrupt Main.encryptedAnswer Main.plainAnswer Main.goOut Main.resolved Main.program Navigable.ancestorHas Navigable.navigableDirectly Navigable.follows Navigable.navigableMask Navigable.navigableSize Program.observed Program.run Response.windowCourse Response.scriptCourse Response.courseOf Response.takes Response.processResponse Run.playFrom Run.play Script.href Script.iframe Script.form Script.setting Script.xhr Script.close Script.deliver Script.postMessage Script.command Script.runScript Sending.send Step.allFresh Step.fits Step.stepTables Step.step Walks.documentsOf Walks.activeDocument Walks.windowNumbered Walks.documentNumbered Walks.above Walks.topAbove Walks.reachedFrom Walks.isUnder Walks.removal Wire.rehearse Shown.tree Shown.shownTo Shown.whatIsShown
 child-is-shown = refl
 
 pub nothing-is-shown : shownIn 32 parentAndChild ≡ text "3"
-unfolding Answers.digitAt At.termAt At.termsAt At.stringAt At.numberAt At.markAt Decode.inside Decode.one Decode.end Decode.upTo Decode.perhaps Decode.atomOf Decode.either Decode.maps Decode.same Decode.word Decode.means Decode.numeral Decode.optionally Decode.optionalOf Decode.labelledOf Limits.shallow Limits.shallows Limits.endingOf Limits.wholeOf Read.run Read.number Read.mark Read.bytes Read.string Read.read Read.reads Read.term Read.terms Term.digits Term.decimal Term.write Term.writes Term.levels Term.levelsIn Encode.numberTerm Encode.optionalTerm Encode.each Encode.labelled Encode.joins Puts.over Table.find Table.keep Table.insert Table.lower Table.has Labels.clean Labels.isFresh Events.eventOf Items.unless Items.moreHeaders Texts.itemIn Rows.jar Cookies.cookieMerge Cookies.addCookies History.moved History.navBack History.navForward LocalSteps.isLocal LocalSteps.home LocalSteps.topOf LocalSteps.stands LocalSteps.hosts LocalSteps.names Main.urlbar Main.reload Main.forward Main.back Main.closeCorrupt Main.encryptedAnswer Main.plainAnswer Main.goOut Main.resolved Main.program Navigable.ancestorHas Navigable.navigableDirectly Navigable.follows Navigable.navigableMask Navigable.navigableSize Program.observed Program.run Response.load Response.arrive Response.answerWindow Response.answerScript Response.answerReached Response.processResponse Run.playFrom Run.play Script.href Script.iframe Script.form Script.setting Script.xhr Script.close Script.deliver Script.postMessage Script.command Script.runScript Sending.send Step.allFresh Step.fits Step.stepTables Step.step Walks.documentsOf Walks.activeDocument Walks.windowNumbered Walks.documentNumbered Walks.above Walks.topAbove Walks.reachedFrom Walks.isUnder Walks.removal Wire.rehearse Shown.tree Shown.shownTo Shown.whatIsShown
+unfolding Answers.digitAt At.termAt At.termsAt At.stringAt At.numberAt At.markAt Decode.inside Decode.one Decode.end Decode.upTo Decode.perhaps Decode.atomOf Decode.either Decode.maps Decode.same Decode.word Decode.means Decode.numeral Decode.optionally Decode.optionalOf Decode.labelledOf Limits.shallow Limits.shallows Limits.endingOf Limits.wholeOf Read.run Read.number Read.mark Read.bytes Read.string Read.read Read.reads Read.term Read.terms Term.digits Term.decimal Term.write Term.writes Term.levels Term.levelsIn Encode.numberTerm Encode.optionalTerm Encode.each Encode.labelled Encode.joins Puts.over Table.find Table.keep Table.insert Table.lower Table.has Labels.clean Labels.isFresh Events.eventOf Items.unless Items.moreHeaders Texts.itemIn Rows.jar Cookies.cookieMerge Cookies.addCookies History.moved History.navBack History.navForward LocalSteps.isLocal LocalSteps.home LocalSteps.topOf LocalSteps.stands LocalSteps.hosts LocalSteps.names Main.urlbar Main.reload Main.forward Main.back Main.closeCorrupt Main.encryptedAnswer Main.plainAnswer Main.goOut Main.resolved Main.program Navigable.ancestorHas Navigable.navigableDirectly Navigable.follows Navigable.navigableMask Navigable.navigableSize Program.observed Program.run Response.windowCourse Response.scriptCourse Response.courseOf Response.takes Response.processResponse Run.playFrom Run.play Script.href Script.iframe Script.form Script.setting Script.xhr Script.close Script.deliver Script.postMessage Script.command Script.runScript Sending.send Step.allFresh Step.fits Step.stepTables Step.step Walks.documentsOf Walks.activeDocument Walks.windowNumbered Walks.documentNumbered Walks.above Walks.topAbove Walks.reachedFrom Walks.isUnder Walks.removal Wire.rehearse Shown.tree Shown.shownTo Shown.whatIsShown
 nothing-is-shown = refl
 
 pub the-runs-print : (allPrint navigating ≡ true) × (allPrint answering ≡ true) × (allPrint refusing ≡ true)
-unfolding Answers.digitAt At.termAt At.termsAt At.stringAt At.numberAt At.markAt Decode.inside Decode.one Decode.end Decode.upTo Decode.perhaps Decode.atomOf Decode.either Decode.maps Decode.same Decode.word Decode.means Decode.numeral Decode.optionally Decode.optionalOf Decode.labelledOf Limits.shallow Limits.shallows Limits.endingOf Limits.wholeOf Read.run Read.number Read.mark Read.bytes Read.string Read.read Read.reads Read.term Read.terms Term.digits Term.decimal Term.write Term.writes Term.levels Term.levelsIn Encode.numberTerm Encode.optionalTerm Encode.each Encode.labelled Encode.joins Puts.over Table.find Table.keep Table.insert Table.lower Table.has Labels.clean Labels.isFresh Events.eventOf Items.unless Items.moreHeaders Texts.itemIn Rows.jar Cookies.cookieMerge Cookies.addCookies History.moved History.navBack History.navForward LocalSteps.isLocal LocalSteps.home LocalSteps.topOf LocalSteps.stands LocalSteps.hosts LocalSteps.names Main.urlbar Main.reload Main.forward Main.back Main.closeCorrupt Main.encryptedAnswer Main.plainAnswer Main.goOut Main.resolved Main.program Navigable.ancestorHas Navigable.navigableDirectly Navigable.follows Navigable.navigableMask Navigable.navigableSize Program.observed Program.run Response.load Response.arrive Response.answerWindow Response.answerScript Response.answerReached Response.processResponse Run.playFrom Run.play Script.href Script.iframe Script.form Script.setting Script.xhr Script.close Script.deliver Script.postMessage Script.command Script.runScript Sending.send Step.allFresh Step.fits Step.stepTables Step.step Walks.documentsOf Walks.activeDocument Walks.windowNumbered Walks.documentNumbered Walks.above Walks.topAbove Walks.reachedFrom Walks.isUnder Walks.removal Wire.rehearse Shown.tree Shown.shownTo Shown.whatIsShown
+unfolding Answers.digitAt At.termAt At.termsAt At.stringAt At.numberAt At.markAt Decode.inside Decode.one Decode.end Decode.upTo Decode.perhaps Decode.atomOf Decode.either Decode.maps Decode.same Decode.word Decode.means Decode.numeral Decode.optionally Decode.optionalOf Decode.labelledOf Limits.shallow Limits.shallows Limits.endingOf Limits.wholeOf Read.run Read.number Read.mark Read.bytes Read.string Read.read Read.reads Read.term Read.terms Term.digits Term.decimal Term.write Term.writes Term.levels Term.levelsIn Encode.numberTerm Encode.optionalTerm Encode.each Encode.labelled Encode.joins Puts.over Table.find Table.keep Table.insert Table.lower Table.has Labels.clean Labels.isFresh Events.eventOf Items.unless Items.moreHeaders Texts.itemIn Rows.jar Cookies.cookieMerge Cookies.addCookies History.moved History.navBack History.navForward LocalSteps.isLocal LocalSteps.home LocalSteps.topOf LocalSteps.stands LocalSteps.hosts LocalSteps.names Main.urlbar Main.reload Main.forward Main.back Main.closeCorrupt Main.encryptedAnswer Main.plainAnswer Main.goOut Main.resolved Main.program Navigable.ancestorHas Navigable.navigableDirectly Navigable.follows Navigable.navigableMask Navigable.navigableSize Program.observed Program.run Response.windowCourse Response.scriptCourse Response.courseOf Response.takes Response.processResponse Run.playFrom Run.play Script.href Script.iframe Script.form Script.setting Script.xhr Script.close Script.deliver Script.postMessage Script.command Script.runScript Sending.send Step.allFresh Step.fits Step.stepTables Step.step Walks.documentsOf Walks.activeDocument Walks.windowNumbered Walks.documentNumbered Walks.above Walks.topAbove Walks.reachedFrom Walks.isUnder Walks.removal Wire.rehearse Shown.tree Shown.shownTo Shown.whatIsShown
 the-runs-print = (refl, refl, refl)

@@ -1,17 +1,17 @@
 -- What is computed by `mayNavigate` is the least set of Definition 38: sound and complete, for any tables.
 use mathlib.Core.Path.{_≡_, refl, sym, _∙_, ap, subst}
 use mathlib.Core.Logic.{_⊎_, inl, inr}
-use mathlib.Core.Bool.{Bool, true, false, _&&_, _||_}
+use mathlib.Core.Bool.{Bool, true, false, cond, _&&_, _||_}
 use mathlib.Core.List.{List}
 use mathlib.Core.Option.{Option, none, some}
 use Prim.Native.Nat.{ℕ, zero, suc, _≤_, _<_}
 use native.Mathlib.Omega.{arith}
 use native.Mathlib.Decide.{decLe, le-ind}
 use lib.ListN.{length}
-use Rattle.sorted.specs.Table.{In}
+use Rattle.sorted.specs.Table.{In, isSome}
 use Rattle.wim.specs.Nouns.{WindowNumber, Origin, Window, Document, Opener, Nobody, OpenedBy}
-use Rattle.wim.specs.Walks.{activeDocument, hasOrigin, Above, missing, topmost, heldBy, above, climb, steps, topAbove, reachedFrom, isReached}
-use Rattle.wim.specs.Navigable.{ChildOf⁺, child, further, HasOrigin, openerOf, Navigable, same-origin, top-level, ancestor, opened, ancestorHas, isWindow, navigableDirectly, follows, mayNavigate}
+use Rattle.wim.specs.Walks.{activeDocument, hasOrigin, Above, missing, topmost, heldBy, above, reachedAt, steps, reachedFrom, isReached}
+use Rattle.wim.specs.Navigable.{ChildOf⁺, child, further, ChildOf*, HasOrigin, openerOf, Navigable, same-origin, top-level, ancestor, opened, ancestorAt, ancestorHas, isWindow, navigableDirectly, follows, mayNavigate}
 use Rattle.sorted.proofs.Never.{never}
 use Rattle.sorted.proofs.Tests.{and-left, and-right, and-both, or-one, or-left, or-right}
 use Rattle.wim.proofs.Numbers.{same-window, window-same}
@@ -26,6 +26,47 @@ pub by-opener : (f : WindowNumber → Bool) (a : Opener) → byOpener f a ≡ tr
 by-opener f Nobody e = never (cc)
 by-opener f (OpenedBy p) e = (p, refl, e)
 
+-- RULE 2: the window from which another is reached is the one top-level window that this is, or is a child of.
+module _ (ws : List Window) (ds : List Document) where
+  pub further* : (v p : WindowNumber) (d : Document) → above ws ds v ≡ heldBy d → d .active ≡ true → ChildOf* ws ds (d .window) p → ChildOf* ws ds v p
+  further* v p d f a (inl e) = inr (subst (ChildOf⁺ ws ds v) e (child f a))
+  further* v p d f a (inr c) = inr (further f a c)
+
+  pub top-sound : (n : ℕ) (w v : WindowNumber) → reachedFrom n ws ds w ≡ some v → ChildOf* ws ds w v × (above ws ds v ≡ topmost)
+  unfolding reachedFrom
+  top-sound zero w v e = never (cc)
+  top-sound (suc n) w v e = go (above ws ds w) refl e (top-sound n)
+    where
+      further-up : (d : Document) (b : Bool) → d .active ≡ b → above ws ds w ≡ heldBy d → cond b (reachedFrom n ws ds (d .window)) none ≡ some v
+          → (reachedFrom n ws ds (d .window) ≡ some v → ChildOf* ws ds (d .window) v × (above ws ds v ≡ topmost)) → ChildOf* ws ds w v × (above ws ds v ≡ topmost)
+      further-up d true a f e ih = let z = ih e in (further* w v d f a (z .0), z .1)
+      further-up d false a f e ih = never (cc)
+
+      go : (u : Above) → above ws ds w ≡ u → reachedAt (reachedFrom n ws ds) w u ≡ some v
+          → ((x t : WindowNumber) → reachedFrom n ws ds x ≡ some t → ChildOf* ws ds x t × (above ws ds t ≡ topmost)) → ChildOf* ws ds w v × (above ws ds v ≡ topmost)
+      go missing f e ih = never (cc)
+      go topmost f e ih = let z : w ≡ v = cc in (inl z, subst (λ (x : WindowNumber). above ws ds x ≡ topmost) z f)
+      go (heldBy d) f e ih = further-up d (d .active) refl f e (ih (d .window) v)
+
+  itself-top : (n : ℕ) (v t : WindowNumber) → above ws ds v ≡ topmost → reachedFrom n ws ds v ≡ some t → t ≡ v
+  unfolding reachedFrom
+  itself-top zero v t f e = never (cc)
+  itself-top (suc n) v t f e = let z : some v ≡ some t = sym (ap (reachedAt (reachedFrom n ws ds) v) f) ∙ e in cc
+
+  child-top : (v p : WindowNumber) → ChildOf⁺ ws ds v p → above ws ds p ≡ topmost → (n : ℕ) (t : WindowNumber) → reachedFrom n ws ds v ≡ some t → t ≡ p
+  unfolding reachedFrom
+  child-top v p (child {d = d} f a) h zero t e = never (cc)
+  child-top v p (child {d = d} f a) h (suc n) t e = itself-top n (d .window) t h (reached-up ws ds n v t d f e .1)
+  child-top v p (further {d = d} f a c) h zero t e = never (cc)
+  child-top v p (further {d = d} f a c) h (suc n) t e = child-top (d .window) p c h n t (reached-up ws ds n v t d f e .1)
+
+  pub top-complete : (w v : WindowNumber) → isReached ws ds w ≡ true → ChildOf* ws ds w v → above ws ds v ≡ topmost → reachedFrom steps ws ds w ≡ some v
+  top-complete w v r c h = let z = reached-from ws ds w r in z .1 ∙ ap some (go c (z .0) (z .1))
+    where
+      go : ChildOf* ws ds w v → (t : WindowNumber) → reachedFrom steps ws ds w ≡ some t → t ≡ v
+      go (inl e) t f = itself-top steps w t (subst (λ (x : WindowNumber). above ws ds x ≡ topmost) (sym e) h) f ∙ e
+      go (inr c) t f = child-top w v c h steps t f
+
 module _ (ws : List Window) (ds : List Document) (o : Origin) where
   -- RULE 3: an ancestor found is one, and one of a reached window is found within the steps by which that is reached.
   ancestor-sound : (n : ℕ) (v : WindowNumber) → ancestorHas n ws ds o v ≡ true → (p : WindowNumber) × ChildOf⁺ ws ds v p × HasOrigin ds o p
@@ -33,7 +74,7 @@ module _ (ws : List Window) (ds : List Document) (o : Origin) where
   ancestor-sound zero v e = never (cc)
   ancestor-sound (suc n) v e = go (above ws ds v) refl e (ancestor-sound n)
     where
-      go : (u : Above) → above ws ds v ≡ u → climb false false (λ d. d .active && (hasOrigin o (activeDocument ds (d .window)) || ancestorHas n ws ds o (d .window))) u ≡ true
+      go : (u : Above) → above ws ds v ≡ u → ancestorAt (ancestorHas n ws ds o) ds o u ≡ true
           → ((x : WindowNumber) → ancestorHas n ws ds o x ≡ true → (p : WindowNumber) × ChildOf⁺ ws ds x p × HasOrigin ds o p) → (p : WindowNumber) × ChildOf⁺ ws ds v p × HasOrigin ds o p
       go missing f e ih = never (cc)
       go topmost f e ih = never (cc)
@@ -64,19 +105,22 @@ module _ (ws : List Window) (ds : List Document) (o : Origin) where
     unfolding navigableDirectly
     directly-sound v r e = go (or-one (hasOrigin o (activeDocument ds v)) _ e)
       where
-        rest : (isWindow v (topAbove steps ws ds w) ≡ true) ⊎ (ancestorHas steps ws ds o v ≡ true) → Navigable ws ds o w v
-        rest (inl h) = top-level r (is-window v (topAbove steps ws ds w) h)
+        rest : (isWindow v (reachedFrom steps ws ds w) ≡ true) ⊎ (ancestorHas steps ws ds o v ≡ true) → Navigable ws ds o w v
+        rest (inl h) =
+            let e : reachedFrom steps ws ds w ≡ some v = is-window v (reachedFrom steps ws ds w) h in
+            let z = top-sound ws ds steps w v e in
+            top-level r (ap isSome e) (z .0) (z .1)
         rest (inr h) = let z = ancestor-sound steps v h in ancestor r (z .1) (z .2)
 
-        go : (hasOrigin o (activeDocument ds v) ≡ true) ⊎ ((isWindow v (topAbove steps ws ds w) || ancestorHas steps ws ds o v) ≡ true) → Navigable ws ds o w v
+        go : (hasOrigin o (activeDocument ds v) ≡ true) ⊎ ((isWindow v (reachedFrom steps ws ds w) || ancestorHas steps ws ds o v) ≡ true) → Navigable ws ds o w v
         go (inl h) = same-origin r h
-        go (inr h) = rest (or-one (isWindow v (topAbove steps ws ds w)) _ h)
+        go (inr h) = rest (or-one (isWindow v (reachedFrom steps ws ds w)) _ h)
 
     same-directly : (v : WindowNumber) → HasOrigin ds o v → navigableDirectly ws ds o w v ≡ true
     unfolding navigableDirectly
     same-directly v h = or-left _ _ h
 
-    top-directly : (v : WindowNumber) → topAbove steps ws ds w ≡ some v → navigableDirectly ws ds o w v ≡ true
+    top-directly : (v : WindowNumber) → reachedFrom steps ws ds w ≡ some v → navigableDirectly ws ds o w v ≡ true
     unfolding navigableDirectly
     top-directly v h = or-right (hasOrigin o (activeDocument ds v)) _ (or-left _ _ (ap (isWindow v) h ∙ window-same v))
 
@@ -84,7 +128,7 @@ module _ (ws : List Window) (ds : List Document) (o : Origin) where
     unfolding navigableDirectly
     ancestor-directly v p r c h =
         let z = reached-from ws ds v r in
-        or-right (hasOrigin o (activeDocument ds v)) _ (or-right (isWindow v (topAbove steps ws ds w)) _ (ancestor-complete v p c h steps (z .0) (z .1)))
+        or-right (hasOrigin o (activeDocument ds v)) _ (or-right (isWindow v (reachedFrom steps ws ds w)) _ (ancestor-complete v p c h steps (z .0) (z .1)))
 
     -- RULE 4: one opener more.
     pub follows-reached : (n : ℕ) (v : WindowNumber) → follows n ws ds o w v ≡ true → isReached ws ds v ≡ true
@@ -117,7 +161,7 @@ module _ (ws : List Window) (ds : List Document) (o : Origin) where
 
     some-follows : (v : WindowNumber) → Navigable ws ds o w v → (n : ℕ) × (follows n ws ds o w v ≡ true)
     some-follows v (same-origin r h) = (1, follows-base v r (same-directly v h))
-    some-follows v (top-level r h) = (1, follows-base v r (top-directly v h))
+    some-follows v (top-level r q c h) = (1, follows-base v r (top-directly v (top-complete ws ds w v q c h)))
     some-follows v (ancestor {p = p} r c h) = (1, follows-base v r (ancestor-directly v p r c h))
     some-follows v (opened {p = p} r e q c) = let z = some-follows p c in (suc (z .0), follows-opened (z .0) v p r e (z .1))
 

@@ -7,7 +7,7 @@ use Prim.Native.Nat.{ℕ, zero, suc, _≤_}
 use native.Mathlib.Decide.{le-ind}
 use Rattle.sorted.specs.Table.{In, isSome}
 use Rattle.wim.specs.Nouns.{WindowNumber, Window, Document}
-use Rattle.wim.specs.Walks.{Above, missing, topmost, heldBy, aboveRow, above, climb, steps, windowNumbered, topAbove, reachedFrom, isReached}
+use Rattle.wim.specs.Walks.{Above, missing, topmost, heldBy, aboveRow, above, topAt, reachedAt, steps, windowNumbered, topAbove, reachedFrom, isReached}
 use Rattle.sorted.proofs.Never.{never}
 use Rattle.wim.proofs.Numbers.{row-numbered}
 
@@ -27,8 +27,8 @@ module _ (ws : List Window) (ds : List Document) where
   top-next zero v t e = never (cc)
   top-next (suc n) v t e = go (above ws ds v) e (top-next n)
     where
-      go : (u : Above) → climb none (some v) (λ d. topAbove n ws ds (d .window)) u ≡ some t → ((x s : WindowNumber) → topAbove n ws ds x ≡ some s → topAbove (suc n) ws ds x ≡ some s)
-          → climb none (some v) (λ d. topAbove (suc n) ws ds (d .window)) u ≡ some t
+      go : (u : Above) → topAt (topAbove n ws ds) v u ≡ some t → ((x s : WindowNumber) → topAbove n ws ds x ≡ some s → topAbove (suc n) ws ds x ≡ some s)
+          → topAt (topAbove (suc n) ws ds) v u ≡ some t
       go missing e ih = never (cc)
       go topmost e ih = e
       go (heldBy d) e ih = ih (d .window) t e
@@ -46,9 +46,9 @@ module _ (ws : List Window) (ds : List Document) where
       further d true e ih = ih e
       further d false e ih = e
 
-      go : (u : Above) → climb none (some v) (λ d. cond (d .active) (reachedFrom n ws ds (d .window)) none) u ≡ some t
+      go : (u : Above) → reachedAt (reachedFrom n ws ds) v u ≡ some t
           → ((x s : WindowNumber) → reachedFrom n ws ds x ≡ some s → reachedFrom (suc n) ws ds x ≡ some s)
-          → climb none (some v) (λ d. cond (d .active) (reachedFrom (suc n) ws ds (d .window)) none) u ≡ some t
+          → reachedAt (reachedFrom (suc n) ws ds) v u ≡ some t
       go missing e ih = never (cc)
       go topmost e ih = e
       go (heldBy d) e ih = further d (d .active) e (ih (d .window) t)
@@ -68,7 +68,7 @@ module _ (ws : List Window) (ds : List Document) where
   reached-row zero v t e = never (cc)
   reached-row (suc n) v t e = go (above ws ds v) refl e
     where
-      go : (u : Above) → above ws ds v ≡ u → climb none (some v) (λ d. cond (d .active) (reachedFrom n ws ds (d .window)) none) u ≡ some t → (r : Window) × In r ws × (r .number ≡ v)
+      go : (u : Above) → above ws ds v ≡ u → reachedAt (reachedFrom n ws ds) v u ≡ some t → (r : Window) × In r ws × (r .number ≡ v)
       go missing f e = never (cc)
       go topmost f e = above-row v topmost f (λ q. never (cc))
       go (heldBy d) f e = above-row v (heldBy d) f (λ q. never (cc))
@@ -82,8 +82,8 @@ module _ (ws : List Window) (ds : List Document) where
       further d true e = e
       further d false e = never (cc)
 
-      go : (u : Above) → climb none (some v) (λ d. cond (d .active) (reachedFrom n ws ds (d .window)) none) u ≡ some t
-          → ((x s : WindowNumber) → reachedFrom n ws ds x ≡ some s → topAbove n ws ds x ≡ some s) → climb none (some v) (λ d. topAbove n ws ds (d .window)) u ≡ some t
+      go : (u : Above) → reachedAt (reachedFrom n ws ds) v u ≡ some t
+          → ((x s : WindowNumber) → reachedFrom n ws ds x ≡ some s → topAbove n ws ds x ≡ some s) → topAt (topAbove n ws ds) v u ≡ some t
       go missing e ih = e
       go topmost e ih = e
       go (heldBy d) e ih = ih (d .window) t (further d (d .active) e)

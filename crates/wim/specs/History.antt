@@ -27,23 +27,23 @@ abbrev pub placeOf : Option Document → ℕ
 placeOf none = 0
 placeOf (some d) = d .place
 
--- 2 to 6 of both algorithms; `first` is what the step does before it moves (a trigger: nothing; a script: what it stores)
+-- 2 to 6 of both algorithms; `storing` is what the step does before it moves (a trigger: nothing; a script: what it stores)
 unfoldable pub moved : WindowNumber → (Program → Program) → List Document → Option Document → Program
-moved w first ds none = refuse Stopped
-moved w first ds (some e) = do
-  first
+moved w storing ds none = refuse Stopped
+moved w storing ds (some e) = do
+  storing
   revise documents (settingActive w (placeOf (activeAmong ds)) false)  -- 3
   revise documents (settingActive w (e .place) true)  -- 4
   cancelNav (Bare w) (done none)  -- 5, 6
 
 -- ALGORITHM 5, NAVBACK(w', s').
 unfoldable pub navBack : WindowNumber → (Program → Program) → Program
-navBack w first = do
+navBack w storing = do
   ds ← ask (history w)
-  moved w first ds (neighbour documentBefore ds (activeAmong ds))
+  moved w storing ds (neighbour documentBefore ds (activeAmong ds))
 
 -- ALGORITHM 6, NAVFORWARD(w', s').
 unfoldable pub navForward : WindowNumber → (Program → Program) → Program
-navForward w first = do
+navForward w storing = do
   ds ← ask (history w)
-  moved w first ds (neighbour documentAfter ds (activeAmong ds))
+  moved w storing ds (neighbour documentAfter ds (activeAmong ds))

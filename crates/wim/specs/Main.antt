@@ -35,10 +35,10 @@ urlbar url NewWindow = do
   edit windows (put (newTopWindow (record { 0 = w }) Nobody) ∷ [])  -- 17, 18
   send (sendingTo (Req (record { 0 = w })) url Unknown)  -- 28, 29
 urlbar url (Existing w) = do
-  isTop ← ask (topLevel w)
-  refuseUnless isTop NoWindow  -- 20
-  shown ← ask (active w)
-  d ← needs NoDocument shown  -- 20
+  found ← ask (topLevel w)
+  refuseUnless found NoWindow  -- 20
+  current ← ask (active w)
+  d ← needs NoDocument current  -- 20
   send (sendingTo (Req w) url Unknown)  -- 21, 28, 29
 
 -- 31, 38, 41: "w ← Subwindows(s') such that s'.w.documents ≠ ⟨⟩ if possible; otherwise stop"
@@ -46,8 +46,8 @@ abbrev pub displayed : WindowNumber → (Document → Program) → Program
 displayed w k = do
   found ← ask (reached w)
   top ← needs NoWindow found
-  shown ← ask (active w)
-  needs NoDocument shown k
+  current ← ask (active w)
+  needs NoDocument current k
 
 -- 30 to 36: reload
 unfoldable pub reload : WindowNumber → Program

@@ -10,7 +10,7 @@ use Rattle.tables.specs.Tables.{documents, cookies, inputs, pendingRequests, st
 use Rattle.tables.specs.Labels.{document}
 use Rattle.tables.specs.Rows.{sameOrigin, settingActive}
 use Rattle.wim.specs.Nouns.{WindowNumber, Url, Origin, Fragment, Absent, Named, Cookie, Method, Get, OriginHeader, Unsent, Null, From, Matching, Reference, Req, Xhr, Sending, Script, ScriptState, Status, Location, Nowhere, To, Body, Number, Page, Answer, Document, Waiting, Answered}
-use Rattle.wim.specs.Walks.{activeAmong}
+use Rattle.wim.specs.Walks.{activeAmong, Removal}
 use Rattle.wim.specs.Cookies.{addCookies}
 use Rattle.wim.specs.Program.{Program, ask, edit, revise, bring, done, reached, history, listening, arrived, under, _>>=_, _>>_}
 use Rattle.wim.specs.Sending.{send}
@@ -69,7 +69,7 @@ redirection u w a = record {
   policy = a .policy;
 }  -- 26
 
--- 35 to 45: a document is loaded behind the active one; those behind that go, with everything under them
+-- 35 to 44: a document is loaded behind the active one; those behind that go, with everything under them
 abbrev pub laterThan : Option Document → List Document → List Document
 laterThan none ds = []
 laterThan (some a) ds = keep (λ (d : Document). ltb (a .place) (d .place)) ds
@@ -91,43 +91,55 @@ newDocument v place n w a script state = record {
   active = true;
 }
 
-unfoldable pub load : WindowNumber → Waiting → Answer → List Cookie → Script → ScriptState → Program
-load v w a new script state = do
+-- THE COURSE OF AN ANSWER, with what the browser is asked for it: every question comes before the first change.
+pub data Course : Type 0 where
+  followed : Url → Course  -- 24 to 27: to the address that it names
+  loaded : WindowNumber → List Document → Removal → Script → ScriptState → Course  -- 35 to 45: into the history of its window, from which some go
+  handed : Document → ℕ → Matching → Course  -- 48 to 50: to the document whose script asked, behind so many inputs
+  nothingMore : Course  -- 01: "headers are acted upon and nothing more"
+
+-- of an answer to a window: by whether that is reached, where the answer redirects to, and its body
+unfoldable pub windowCourse : WindowNumber → Option WindowNumber → Option Url → Body → (Course → Program) → Program
+windowCourse v none to body go = go nothingMore  -- 28, 29; 32
+windowCourse v (some top) (some u) body go = go (followed u)  -- 24
+windowCourse v (some top) none (Number m) go = go nothingMore  -- 33, 34
+windowCourse v (some top) none (Page script state) go = do
   ds ← ask (history v)
-  let current = activeAmong ds
-  gone ← ask (under (map (λ (d : Document). d .number) (laterThan current ds)))
-  actOnHeaders w a new
+  gone ← ask (under (map (λ (d : Document). d .number) (laterThan (activeAmong ds) ds)))
+  go (loaded v ds gone script state)
+
+-- of an answer to an XHR: by where it redirects to, and whether its document is the active one of a reached window
+unfoldable pub scriptCourse : Matching → Option Url → Option Document → (Course → Program) → Program
+scriptCourse matching (some u) found go = go nothingMore  -- 24: "Do not redirect XHRs"; 28, 29
+scriptCourse matching none none go = go nothingMore  -- 47
+scriptCourse matching none (some d) go = do
+  earlier ← ask (arrived (d .number))
+  go (handed d earlier matching)
+
+unfoldable pub courseOf : Reference → Answer → (Course → Program) → Program
+courseOf (Req v) a go = do
+  found ← ask (reached v)  -- 24, 32
+  windowCourse v found (whereTo (a .status) (a .location)) (a .body) go
+courseOf (Xhr n matching) a go = do
+  found ← ask (listening n)  -- 47
+  scriptCourse matching (whereTo (a .status) (a .location)) found go
+
+unfoldable pub takes : Course → Waiting → Answer → Program
+takes (followed u) w a = send (redirection (withFragmentOf (w .url) u) w a)  -- 12 to 27
+takes (loaded v ds gone script state) w a = do
   n ← bring document
   remove gone  -- 43
-  revise documents (settingActive v (placeOf current) false)  -- 42
-  edit documents (put (newDocument v (suc (length (upTo current ds))) n w a script state) ∷ [])  -- 37, 39, 44
+  revise documents (settingActive v (placeOf (activeAmong ds)) false)  -- 41, 42
+  edit documents (put (newDocument v (suc (length (upTo (activeAmong ds) ds))) n w a script state) ∷ [])  -- 35 to 39, 44
   done none  -- 45
+takes (handed d earlier matching) w a = do
+  edit inputs (file (d .number) earlier (Answered matching (a .body)))  -- 48, 49
+  done none  -- 50
+takes nothingMore w a = done none  -- 29, 34
 
--- 30 to 34: a window's answer without a redirect
-unfoldable pub arrive : WindowNumber → Waiting → Answer → List Cookie → Body → Program
-arrive v w a new (Number m) = actOnHeaders w a new (done none)  -- 33, 34
-arrive v w a new (Page script state) = load v w a new script state
-
--- 11 to 45, for a window that is reached
-unfoldable pub answerWindow : WindowNumber → Waiting → Answer → List Cookie → Option Url → Program
-answerWindow v w a new none = arrive v w a new (a .body)
-answerWindow v w a new (some u) = actOnHeaders w a new (send (redirection (withFragmentOf (w .url) u) w a))  -- 24 to 27
-
--- 46 to 50, for a document that is the active one of a reached window; 24: an XHR is not redirected
-unfoldable pub answerScript : Waiting → Answer → List Cookie → Matching → Option Url → Option Document → Program
-answerScript w a new matching (some u) d = actOnHeaders w a new (done none)  -- 28, 29
-answerScript w a new matching none none = actOnHeaders w a new (done none)
-answerScript w a new matching none (some d) = do
-  before ← ask (arrived (d .number))
-  actOnHeaders w a new
-  edit inputs (file (d .number) before (Answered matching (a .body)))  -- 49
-  done none
-
--- ALGORITHM 8. 01: where the window, or the active document of an XHR, is not reached, "headers are acted upon and nothing more".
-unfoldable pub answerReached : WindowNumber → Waiting → Answer → List Cookie → Option WindowNumber → Program
-answerReached v w a new none = actOnHeaders w a new (done none)
-answerReached v w a new (some top) = answerWindow v w a new (whereTo (a .status) (a .location))
-
+-- ALGORITHM 8.
 unfoldable pub processResponse : Reference → Waiting → Answer → List Cookie → Program
-processResponse (Req v) w a new = ask (reached v) (answerReached v w a new)  -- 24, 32
-processResponse (Xhr n matching) w a new = ask (listening n) (answerScript w a new matching (whereTo (a .status) (a .location)))  -- 47
+processResponse reference w a new = do
+  course ← courseOf reference a  -- 11, 24, 30 to 34, 46, 47: which way it goes
+  actOnHeaders w a new  -- 2 to 6
+  takes course w a  -- 7 to 29, 35 to 45, 48 to 50: and there it goes

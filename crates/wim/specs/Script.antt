@@ -1,6 +1,6 @@
 -- 000 Algorithms 1, 2 and 7: GETNAVIGABLEWINDOW, GETWINDOW and RUNSCRIPT with each of its commands.
--- Where a line of 000 stops without output, nothing has changed (2.6.3). So those lines stand first in each command, before what the step stores.
-use mathlib.Core.Bool.{Bool, true, false, cond, not}
+-- Where a line of 000 stops without output, nothing has changed (2.6.3). So those lines stand first in each command, before what the step stores (`storing`).
+use mathlib.Core.Bool.{Bool, true, false, cond, not, _||_}
 use mathlib.Core.List.{List, [], _∷_, map}
 use mathlib.Core.Option.{Option, none, some}
 use Prim.Native.Nat.{ℕ, suc}
@@ -18,6 +18,21 @@ use Rattle.wim.specs.History.{navBack, navForward}
 
 abbrev pub noData : Data
 noData = record { 0 = 0 }
+
+-- methods are told apart by a number of their own
+abbrev pub methodNumber : Method → ℕ
+methodNumber Get = 0
+methodNumber Head = 1
+methodNumber Post = 2
+methodNumber Put = 3
+methodNumber Delete = 4
+methodNumber Connect = 5
+methodNumber Options = 6
+methodNumber Trace = 7
+
+abbrev pub oneOfMethods : Method → List Method → Bool
+oneOfMethods m [] = false
+oneOfMethods m (x ∷ xs) = eqb (methodNumber m) (methodNumber x) || oneOfMethods m xs
 
 -- ALGORITHM 1, GETNAVIGABLEWINDOW, lines 9 and 10: the window with the number if it is navigable, otherwise the script's own
 abbrev pub getNavigableWindow : WindowNumber → Document → WindowNumber → (WindowNumber → Program) → Program
@@ -80,50 +95,36 @@ hrefInto d url noreferrer v = do
   send (sendingFrom d (Req v) Get url (url .parameters) noData Unsent (hrefPolicy noreferrer d))  -- 21 to 24, 26
 
 unfoldable pub href : WindowNumber → Document → (Program → Program) → Url → Bool → Target → Program
-href w d first url noreferrer NewWindow = do
-  first
+href w d storing url noreferrer NewWindow = do
+  storing
   v ← bring window
   edit windows (put (newTopWindow (record { 0 = v }) (openerUnless noreferrer w)) ∷ [])  -- 20, A1:2 to 8
   hrefInto d url noreferrer (record { 0 = v })
-href w d first url noreferrer (Existing x) = do
+href w d storing url noreferrer (Existing x) = do
   v ← getNavigableWindow w d x  -- 20
-  first
+  storing
   hrefInto d url noreferrer v
 
 -- 27 to 35: IFRAME
 abbrev pub iframeIn : Document → (Program → Program) → Url → Document → Program
-iframeIn d first url holder = do
-  first
+iframeIn d storing url holder = do
+  storing
   v ← bring window
   edit windows (put (record { number = record { 0 = v }; parent = Under (holder .number); opener = Nobody }) ∷ [])  -- 33, 34
   send (sendingFrom d (Req (record { 0 = v })) Get url (url .parameters) noData Unsent (d .policy))  -- 32, 35
 
 unfoldable pub iframe : Document → (Program → Program) → Url → Holder → Program
-iframe d first url Itself = iframeIn d first url d  -- 28, 29
-iframe d first url (Within x) = do
+iframe d storing url Itself = iframeIn d storing url d  -- 28, 29
+iframe d storing url (Within x) = do
   holder ← getWindow d x  -- 31
-  iframeIn d first url holder
+  iframeIn d storing url holder
 
 -- 36 to 51: FORM
 abbrev pub isFormMethod : Method → Bool
-isFormMethod Get = true
-isFormMethod Head = false
-isFormMethod Post = true
-isFormMethod Put = false
-isFormMethod Delete = false
-isFormMethod Connect = false
-isFormMethod Options = false
-isFormMethod Trace = false
+isFormMethod m = oneOfMethods m (Get ∷ Post ∷ [])
 
 abbrev pub isGet : Method → Bool
-isGet Get = true
-isGet Head = false
-isGet Post = false
-isGet Put = false
-isGet Delete = false
-isGet Connect = false
-isGet Options = false
-isGet Trace = false
+isGet m = oneOfMethods m (Get ∷ [])
 
 -- 41 to 49: the data of a GET goes into the request's parameters, of a POST into its body
 abbrev pub formSending : Document → Url → Method → Data → Reference → Sending
@@ -138,46 +139,32 @@ formInto d url method data′ v = do
   send (formSending d url method data′ (Req v))  -- 40 to 49, 51
 
 unfoldable pub form : WindowNumber → Document → (Program → Program) → Url → Method → Data → Target → Program
-form w d first url method data′ NewWindow = do
+form w d storing url method data′ NewWindow = do
   stopIf (not (isFormMethod method))  -- 37, 38
-  first
+  storing
   v ← bring window
   edit windows (put (newTopWindow (record { 0 = v }) (OpenedBy w)) ∷ [])  -- 39, A1:2 to 8
   formInto d url method data′ (record { 0 = v })
-form w d first url method data′ (Existing x) = do
+form w d storing url method data′ (Existing x) = do
   stopIf (not (isFormMethod method))  -- 37, 38
   v ← getNavigableWindow w d x  -- 39
-  first
+  storing
   formInto d url method data′ v
 
 -- 52 to 59: SETSCRIPT, SETSCRIPTSTATE
 unfoldable pub setting : Document → (Program → Program) → WindowNumber → (Document → Document) → Program
-setting d first x f = do
+setting d storing x f = do
   e ← getWindow d x  -- 53, 57
-  first
+  storing
   revise documents (changing (e .number) f)  -- 54, 58
   done none
 
 -- 60 to 72: XMLHTTPREQUEST
 abbrev pub isForbidden : Method → Bool
-isForbidden Get = false
-isForbidden Head = false
-isForbidden Post = false
-isForbidden Put = false
-isForbidden Delete = false
-isForbidden Connect = true
-isForbidden Options = false
-isForbidden Trace = true
+isForbidden m = oneOfMethods m (Connect ∷ Trace ∷ [])
 
 abbrev pub isGetOrHead : Method → Bool
-isGetOrHead Get = true
-isGetOrHead Head = true
-isGetOrHead Post = false
-isGetOrHead Put = false
-isGetOrHead Delete = false
-isGetOrHead Connect = false
-isGetOrHead Options = false
-isGetOrHead Trace = false
+isGetOrHead m = oneOfMethods m (Get ∷ Head ∷ [])
 
 abbrev pub urlOrigin : Url → Origin
 urlOrigin u = record { host = u .host; protocol = u .protocol }
@@ -189,10 +176,10 @@ xhrSending d url method data′ reference =
     (sendingFrom d reference method url (url .parameters) data′ (From (originOf d)) (d .policy))  -- 69
 
 unfoldable pub xhr : Document → (Program → Program) → Url → Method → Data → Reference → Program
-xhr d first url method data′ reference = do
+xhr d storing url method data′ reference = do
   stopIf (isForbidden method)  -- 61, 62
   stopIf (not (sameOrigin (urlOrigin url) (originOf d)))  -- 63, 64
-  first
+  storing
   send (xhrSending d url method data′ reference)  -- 65 to 72
 
 -- what goes is taken out of the three tables in which it stands
@@ -209,11 +196,11 @@ withWindow v gone = record { windows = v ∷ gone .windows; documents = gone .do
 
 -- 79 to 82: CLOSE
 unfoldable pub close : WindowNumber → Document → (Program → Program) → WindowNumber → Program
-close w d first x = do
+close w d storing x = do
   v ← getNavigableWindow w d x  -- 80
   ds ← ask (history v)
   gone ← ask (under (map (λ (e : Document). e .number) ds))
-  first
+  storing
   remove (withWindow v gone)  -- 81
   done none  -- 82
 
@@ -223,52 +210,52 @@ isFor Anyone d = true
 isFor (Only o) d = sameOrigin (originOf d) o
 
 abbrev pub file : DocumentNumber → ℕ → News → Edits inputs
-file n before news = put (record { document = n; arrival = suc before; news = news }) ∷ []
+file n earlier news = put (record { document = n; arrival = suc earlier; news = news }) ∷ []
 
 unfoldable pub deliver : WindowNumber → Document → (Program → Program) → ℕ → Addressee → Option Document → Program
-deliver w d first message to none = do
-  first
+deliver w d storing message to none = do
+  storing
   done none
-deliver w d first message to (some e) = do
-  before ← ask (arrived (e .number))
-  first
-  edit inputs (cond (isFor to e) (file (e .number) before (Posted w (originOf d) message)) [])  -- 85, 86
+deliver w d storing message to (some e) = do
+  earlier ← ask (arrived (e .number))
+  storing
+  edit inputs (cond (isFor to e) (file (e .number) earlier (Posted w (originOf d) message)) [])  -- 85, 86
   done none
 
 unfoldable pub postMessage : WindowNumber → Document → (Program → Program) → WindowNumber → ℕ → Addressee → Program
-postMessage w d first x message to = do
+postMessage w d storing x message to = do
   found ← ask (reached x)  -- 84
   top ← needs NoWindow found
   target ← ask (active x)
-  deliver w d first message to target
+  deliver w d storing message to target
 
 -- 18: switch command do
 unfoldable pub command : WindowNumber → Document → (Program → Program) → Command → Program
-command w d first Nothing = do
-  first
+command w d storing Nothing = do
+  storing
   done none
-command w d first (Href url target noreferrer) = href w d first url noreferrer target
-command w d first (Iframe url holder) = iframe d first url holder
-command w d first (Form url method data′ target) = form w d first url method data′ target
-command w d first (SetScript x script) = setting d first x (withScript script)
-command w d first (SetScriptState x state) = setting d first x (withState state)
-command w d first (XmlHttpRequest url method data′ matching) = xhr d first url method data′ (Xhr (d .number) matching)  -- 71
-command w d first (Back x) = do
+command w d storing (Href url target noreferrer) = href w d storing url noreferrer target
+command w d storing (Iframe url holder) = iframe d storing url holder
+command w d storing (Form url method data′ target) = form w d storing url method data′ target
+command w d storing (SetScript x script) = setting d storing x (withScript script)
+command w d storing (SetScriptState x state) = setting d storing x (withState state)
+command w d storing (XmlHttpRequest url method data′ matching) = xhr d storing url method data′ (Xhr (d .number) matching)  -- 71
+command w d storing (Back x) = do
   v ← getNavigableWindow w d x  -- 74
-  navBack v first  -- 75
-command w d first (Forward x) = do
+  navBack v storing  -- 75
+command w d storing (Forward x) = do
   v ← getNavigableWindow w d x  -- 77
-  navForward v first  -- 78
-command w d first (Close x) = close w d first x
-command w d first (PostMessage x message to) = postMessage w d first x message to
+  navForward v storing  -- 78
+command w d storing (Close x) = close w d storing x
+command w d storing (PostMessage x message to) = postMessage w d storing x message to
 
 -- ALGORITHM 7, RUNSCRIPT, called from A9:9 to 12.
 unfoldable pub runScript : WindowNumber → Output → List Cookie → Program
 runScript w out new = do
   found ← ask (reached w)  -- A9:10
   top ← needs NoWindow found  -- 4
-  shown ← ask (active w)
-  d ← needs NoDocument shown  -- A9:11
+  current ← ask (active w)
+  d ← needs NoDocument current  -- A9:11
   old ← ask (cookiesOf (d .location .host))
   let merged = cookieMerge old new (d .location .protocol)
   command w d (store d top merged out) (out .command)  -- 18

@@ -30,7 +30,7 @@ abbrev pub hasOrigin : Origin → Option Document → Bool
 hasOrigin o none = false
 hasOrigin o (some d) = sameOrigin (originOf d) o
 
--- What stands above a window: the document that holds it, nothing (it is a top-level window), or it isn't there at all.
+-- What stands above a window: the document that holds it, nothing (it is a top-level window), or it isn't there at all. Walks go by these three cases.
 pub data Above : Type 0 where
   missing : Above
   topmost : Above
@@ -51,31 +51,41 @@ aboveRow ds (some r) = aboveParent ds (r .parent)
 unfoldable pub above : List Window → List Document → WindowNumber → Above
 above ws ds w = aboveRow ds (windowNumbered ws w)
 
-abbrev pub climb : {A : Type 0} → A → A → (Document → A) → Above → A
-climb lost atTop up missing = lost
-climb lost atTop up topmost = atTop
-climb lost atTop up (heldBy d) = up d
-
 abbrev pub steps : ℕ
 steps = 32
 
 -- The top-level window above a window; inactive documents count on the way up.
+abbrev pub topAt : (WindowNumber → Option WindowNumber) → WindowNumber → Above → Option WindowNumber
+topAt up w missing = none
+topAt up w topmost = some w
+topAt up w (heldBy d) = up (d .window)
+
 unfoldable pub topAbove : ℕ → List Window → List Document → WindowNumber → Option WindowNumber
 topAbove zero ws ds w = none
-topAbove (suc n) ws ds w = climb none (some w) (λ d. topAbove n ws ds (d .window)) (above ws ds w)
+topAbove (suc n) ws ds w = topAt (topAbove n ws ds) w (above ws ds w)
 
 -- Definition 34: the top-level window from which a window is reached through active documents, if it is in Subwindows.
+abbrev pub reachedAt : (WindowNumber → Option WindowNumber) → WindowNumber → Above → Option WindowNumber
+reachedAt up w missing = none
+reachedAt up w topmost = some w
+reachedAt up w (heldBy d) = cond (d .active) (up (d .window)) none
+
 unfoldable pub reachedFrom : ℕ → List Window → List Document → WindowNumber → Option WindowNumber
 reachedFrom zero ws ds w = none
-reachedFrom (suc n) ws ds w = climb none (some w) (λ d. cond (d .active) (reachedFrom n ws ds (d .window)) none) (above ws ds w)
+reachedFrom (suc n) ws ds w = reachedAt (reachedFrom n ws ds) w (above ws ds w)
 
 abbrev pub isReached : List Window → List Document → WindowNumber → Bool
 isReached ws ds w = isSome (reachedFrom steps ws ds w)
 
 -- One of these documents stands above the window, on whatever level.
+abbrev pub underAt : (WindowNumber → Bool) → List DocumentNumber → Above → Bool
+underAt up gone missing = false
+underAt up gone topmost = false
+underAt up gone (heldBy d) = oneOf (d .number) gone || up (d .window)
+
 unfoldable pub isUnder : ℕ → List Window → List Document → List DocumentNumber → WindowNumber → Bool
 isUnder zero ws ds gone w = false
-isUnder (suc n) ws ds gone w = climb false false (λ d. oneOf (d .number) gone || isUnder n ws ds gone (d .window)) (above ws ds w)
+isUnder (suc n) ws ds gone w = underAt (isUnder n ws ds gone) gone (above ws ds w)
 
 -- What goes when these documents go: they themselves and all windows and documents under them, on all levels, under inactive documents too.
 pub record Removal : Type 0 where
