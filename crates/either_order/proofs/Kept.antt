@@ -20,7 +20,7 @@ use Rattle.either_order.proofs.Part.{Part, own-sees, Whole}
 use Rattle.either_order.proofs.Keeps.{Keeps}
 use Rattle.either_order.proofs.Commute.{nothing}
 use Rattle.either_order.proofs.Shared.{four, kept-needs, kept-unless, kept-send, kept-cancel, kept-moved}
-use Rattle.either_order.proofs.Seeds.{Seeds, reached-own, shown-host}
+use Rattle.either_order.proofs.Seeds.{Seeds, reached-own, active-host}
 use Rattle.either_order.proofs.Scripts.{kept-script}
 use Rattle.either_order.proofs.Answers.{kept-resolved, kept-encrypted, kept-plain}
 
@@ -49,7 +49,7 @@ module _ (F : Part) (b : Tables) (W : Whole F b) where
   unfolding reload home hosts
   kept-reload w S = kept-displayed w _ (Reload w) S refl (λ d s ow.
       kept-cancel F nothing (Bare w) (send (sendingTo (Req w) (d .location) (d .referrer))) tt
-      (kept-send F _ (sendingTo (Req w) (d .location) (d .referrer)) (own-sees F (window, w .0) ow) (S .hosts-own (d .location .host) (shown-host d (observed (active w) b) s)) (four _ refl)) b)
+      (kept-send F _ (sendingTo (Req w) (d .location) (d .referrer)) (own-sees F (window, w .0) ow) (S .hosts-own (d .location .host) (active-host d (observed (active w) b) s)) (four _ refl)) b)
 
   kept-back : (w : WindowNumber) → Seeds F (GoBack w) b → Keeps F nothing (back w) b
   unfolding back navBack home

@@ -62,10 +62,10 @@ pub record Seeds (F : Part) (e : Event) (b : Tables) : Type 0 where
   pub sought-sees : (l : Label) → In l (sought e) → sees F l ≡ true
   pub found-own : (l : Label) → In l (found e b) → F .own l ≡ true
 
--- the host of the document that is shown
-pub shown-host : (d : Document) (o : Option Document) → o ≡ some d → In (d .location .host) (documentHost o)
-shown-host d none e = never (cc)
-shown-host d (some x) e = let z : x ≡ d = cc in inl (ap (λ (y : Document). y .location .host) (sym z))
+-- the host of the active document
+pub active-host : (d : Document) (o : Option Document) → o ≡ some d → In (d .location .host) (documentHost o)
+active-host d none e = never (cc)
+active-host d (some x) e = let z : x ≡ d = cc in inl (ap (λ (y : Document). y .location .host) (sym z))
 
 -- lists of numbers
 one-of-map : (l : List Document) (n : DocumentNumber) → oneOf n (map (λ (d : Document). d .number) l) ≡ true → (d : Document) × In d l × (n .0 ≡ d .number .0)

@@ -141,8 +141,8 @@ module _ (F : Part) where
       go false e = (alike d d refl refl refl, inl refl)
 
 -- ALGORITHM 7, lines 11 to 14.
-abbrev pub storing : (Table → ℕ) → Table → ℕ
-storing n u = ((n u + on cookies 4 u) + on localStorage 1 u) + on sessionStorage 1 u
+abbrev pub afterStoring : (Table → ℕ) → Table → ℕ
+afterStoring n u = ((n u + on cookies 4 u) + on localStorage 1 u) + on sessionStorage 1 u
 
 module _ (F : Part) where
   local-ok : (o : Origin) (v : Stored) → F .own (host, o .host .0) ≡ true → All (Ok F localStorage) (storeLocal o v)
@@ -175,7 +175,7 @@ module _ (F : Part) where
 
   pub kept-store : (n : Table → ℕ) (d : Document) (top : WindowNumber) (merged : List Cookie) (out : Output) (p : Program)
       → F .own (host, d .location .host .0) ≡ true → F .own (document, d .number .0) ≡ true → sees F (window, top .0) ≡ true → length merged ≤ 4
-      → Always F (storing n) p → Always F n (store d top merged out p)
+      → Always F (afterStoring n) p → Always F n (store d top merged out p)
   kept-store n d top merged out p oh od st few k b = (
     cookies-ok F (d .location .host) merged oh,
     4,

@@ -27,7 +27,7 @@ stays-active w place t = stays-if (λ d. sameWindow (d .window) w && eqb (d .pla
 
 -- what a step does first keeps what comes after it orderly
 abbrev pub Leads : Tables → (Program → Program) → Type 0
-Leads a first = (p : Program) → Orderly a p → Orderly a (first p)
+Leads a storing = (p : Program) → Orderly a p → Orderly a (storing p)
 
 module _ {a : Tables} where
   -- a new question, with a number of its own and a request of its own
@@ -50,8 +50,8 @@ module _ {a : Tables} where
       (orderly-edit sessionStorage _ _ (λ r i. tt)
       (orderly-revise _ p (stays-changing (d .number) (withState (out .state)) (λ e. (refl, refl))) g)))
 
-  module _ (w : WindowNumber) (first : Program → Program) (L : Leads a first) where
-    orderly-moved : (ds : List Document) (o : Option Document) → Orderly a (moved w first ds o)
+  module _ (w : WindowNumber) (storing : Program → Program) (L : Leads a storing) where
+    orderly-moved : (ds : List Document) (o : Option Document) → Orderly a (moved w storing ds o)
     unfolding moved
     orderly-moved ds none = orderly-refuse _
     orderly-moved ds (some e) =
@@ -60,10 +60,10 @@ module _ {a : Tables} where
         (orderly-revise _ _ (stays-active w (e .place) true)
         (orderly-cancel (Bare w) (done none) (orderly-done none))))
 
-    pub orderly-back : Orderly a (navBack w first)
+    pub orderly-back : Orderly a (navBack w storing)
     unfolding navBack
     orderly-back = orderly-ask (history w) _ (λ ds. orderly-moved ds (neighbour documentBefore ds (activeAmong ds)))
 
-    pub orderly-forward : Orderly a (navForward w first)
+    pub orderly-forward : Orderly a (navForward w storing)
     unfolding navForward
     orderly-forward = orderly-ask (history w) _ (λ ds. orderly-moved ds (neighbour documentAfter ds (activeAmong ds)))

@@ -28,10 +28,10 @@ module _ {a : Tables} where
   unfolding urlbar
   orderly-urlbar url NewWindow = orderly-window _ _ (λ v. orderly-send _)
   orderly-urlbar url (Existing w) =
-      orderly-ask (topLevel w) _ (λ isTop. orderly-unless isTop NoWindow _ (orderly-ask (active w) _ (λ shown. orderly-needs NoDocument shown _ (λ d. orderly-send _))))
+      orderly-ask (topLevel w) _ (λ found. orderly-unless found NoWindow _ (orderly-ask (active w) _ (λ current. orderly-needs NoDocument current _ (λ d. orderly-send _))))
 
   orderly-displayed : (w : WindowNumber) (k : Document → Program) → ((d : Document) → Orderly a (k d)) → Orderly a (displayed w k)
-  orderly-displayed w k g = orderly-ask (reached w) _ (λ found. orderly-needs NoWindow found _ (λ top. orderly-ask (active w) _ (λ shown. orderly-needs NoDocument shown k g)))
+  orderly-displayed w k g = orderly-ask (reached w) _ (λ found. orderly-needs NoWindow found _ (λ top. orderly-ask (active w) _ (λ current. orderly-needs NoDocument current k g)))
 
   orderly-reload : (w : WindowNumber) → Orderly a (reload w)
   unfolding reload

@@ -24,11 +24,11 @@ use Rattle.rooted.proofs.Fresh.{Fresh}
 use Rattle.rooted.proofs.Touched.{Whole, kept-send, Touched, Light, light-store, calm-changing}
 use Rattle.rooted.proofs.Blocks.{whole-touched, whole-top, whole-frame, whole-closed, whole-moved, whole-filed}
 
-module _ (b : Tables) (N : Numbered b) (S : Stands (b windows) (b documents) (b inputs)) (first : Program → Program) (L : Light first) where
+module _ (b : Tables) (N : Numbered b) (S : Stands (b windows) (b documents) (b inputs)) (storing : Program → Program) (L : Light storing) where
   -- THE HISTORY: A5 and A6.
   kept-moved : (v : WindowNumber) (o : Option Document) → activeAmong (documentsOf (b documents) v) ≡ o → (towards : List Document → Document → Option Document)
       → ((d e : Document) → towards (documentsOf (b documents) v) d ≡ some e → In e (documentsOf (b documents) v))
-      → Keeps Whole (Fresh b) (moved v first (documentsOf (b documents) v) (neighbour towards (documentsOf (b documents) v) o)) b
+      → Keeps Whole (Fresh b) (moved v storing (documentsOf (b documents) v) (neighbour towards (documentsOf (b documents) v) o)) b
   unfolding moved
   kept-moved v none f towards t = tt
   kept-moved v (some a) f towards t = go (towards (documentsOf (b documents) v) a) refl
@@ -36,21 +36,21 @@ module _ (b : Tables) (N : Numbered b) (S : Stands (b windows) (b documents) (b 
       place : placeOf (activeAmong (documentsOf (b documents) v)) ≡ a .place
       place = ap placeOf f
 
-      go : (e : Option Document) → towards (documentsOf (b documents) v) a ≡ e → Keeps Whole (Fresh b) (moved v first (documentsOf (b documents) v) e) b
+      go : (e : Option Document) → towards (documentsOf (b documents) v) a ≡ e → Keeps Whole (Fresh b) (moved v storing (documentsOf (b documents) v) e) b
       go none g = tt
       go (some e) g = L Whole (Fresh b) _ b (λ c T l. (let z = in-history (b documents) v e (t a e g) in
           subst (λ (p : ℕ). Stands (c windows) (map (settingActive v (e .place) true) (map (settingActive v p false) (c documents))) (c inputs)) (sym place) (whole-moved b N S c T v a e f (z .0) (z .1))))
 
-  pub kept-back : (v : WindowNumber) → Keeps Whole (Fresh b) (navBack v first) b
+  pub kept-back : (v : WindowNumber) → Keeps Whole (Fresh b) (navBack v storing) b
   unfolding navBack observed
   kept-back v = kept-moved v (activeAmong (documentsOf (b documents) v)) refl documentBefore (λ d e g. find-in (λ (x : Document). eqb (suc (x .place)) (d .place)) (documentsOf (b documents) v) e g .0)
 
-  pub kept-forward : (v : WindowNumber) → Keeps Whole (Fresh b) (navForward v first) b
+  pub kept-forward : (v : WindowNumber) → Keeps Whole (Fresh b) (navForward v storing) b
   unfolding navForward observed
   kept-forward v = kept-moved v (activeAmong (documentsOf (b documents) v)) refl documentAfter (λ d e g. find-in (λ (x : Document). eqb (x .place) (suc (d .place))) (documentsOf (b documents) v) e g .0)
 
   -- HREF
-  kept-href : (w : WindowNumber) (d : Document) (url : Url) (noreferrer : Bool) (target : Target) → Keeps Whole (Fresh b) (href w d first url noreferrer target) b
+  kept-href : (w : WindowNumber) (d : Document) (url : Url) (noreferrer : Bool) (target : Target) → Keeps Whole (Fresh b) (href w d storing url noreferrer target) b
   unfolding href
   kept-href w d url noreferrer NewWindow = L Whole (Fresh b) _ b (λ c T n f. kept-send (Fresh b) _ _ (whole-top b N S c T n f (openerUnless noreferrer w)))
   kept-href w d url noreferrer (Existing x) = L Whole (Fresh b) _ b (λ c T. kept-send (Fresh b) _ _ (λ l. whole-touched b N S c T))
@@ -70,38 +70,38 @@ module _ (b : Tables) (N : Numbered b) (S : Stands (b windows) (b documents) (b 
       go true (some e) f = one (hasOrigin (originOf d) (some e)) e (active-in (b documents) v e f .0)
       go false (some e) f = i
 
-  kept-frame : (d : Document) (url : Url) (holder : Document) → In holder (b documents) → Keeps Whole (Fresh b) (iframeIn d first url holder) b
+  kept-frame : (d : Document) (url : Url) (holder : Document) → In holder (b documents) → Keeps Whole (Fresh b) (iframeIn d storing url holder) b
   kept-frame d url holder i = L Whole (Fresh b) _ b (λ c T n f. kept-send (Fresh b) _ _ (whole-frame b N S c T n f holder i))
 
-  kept-iframe : (d : Document) → In d (b documents) → (url : Url) (holder : Holder) → Keeps Whole (Fresh b) (iframe d first url holder) b
+  kept-iframe : (d : Document) → In d (b documents) → (url : Url) (holder : Holder) → Keeps Whole (Fresh b) (iframe d storing url holder) b
   unfolding iframe
   kept-iframe d i url Itself = kept-frame d url d i
   kept-iframe d i url (Within x) = kept-frame d url (otherwise d (observed (ofOrigin d x) b)) (other-in d i x)
 
   -- FORM
-  kept-form : (w : WindowNumber) (d : Document) (url : Url) (method : Method) (data′ : Data) (target : Target) → Keeps Whole (Fresh b) (form w d first url method data′ target) b
+  kept-form : (w : WindowNumber) (d : Document) (url : Url) (method : Method) (data′ : Data) (target : Target) → Keeps Whole (Fresh b) (form w d storing url method data′ target) b
   unfolding form
   kept-form w d url method data′ NewWindow = kept-stop Whole (Fresh b) (not (isFormMethod method)) _ b (L Whole (Fresh b) _ b (λ c T n f. kept-send (Fresh b) _ _ (whole-top b N S c T n f (OpenedBy w))))
   kept-form w d url method data′ (Existing x) = kept-stop Whole (Fresh b) (not (isFormMethod method)) _ b (L Whole (Fresh b) _ b (λ c T. kept-send (Fresh b) _ _ (λ l. whole-touched b N S c T)))
 
   -- SETSCRIPT, SETSCRIPTSTATE
-  kept-setting : (d : Document) (x : WindowNumber) (f : Document → Document) → Calm f → Keeps Whole (Fresh b) (setting d first x f) b
+  kept-setting : (d : Document) (x : WindowNumber) (f : Document → Document) → Calm f → Keeps Whole (Fresh b) (setting d storing x f) b
   unfolding setting
   kept-setting d x f m = L Whole (Fresh b) _ b (λ c T l. stands-calm (c windows) (c documents) (c inputs) _ (calm-changing (otherwise d (observed (ofOrigin d x) b) .number) f m) (whole-touched b N S c T))
 
   -- XMLHTTPREQUEST
-  kept-xhr : (d : Document) (url : Url) (method : Method) (data′ : Data) (reference : Reference) → Keeps Whole (Fresh b) (xhr d first url method data′ reference) b
+  kept-xhr : (d : Document) (url : Url) (method : Method) (data′ : Data) (reference : Reference) → Keeps Whole (Fresh b) (xhr d storing url method data′ reference) b
   unfolding xhr
   kept-xhr d url method data′ reference =
       kept-stop Whole (Fresh b) (isForbidden method) _ b (kept-stop Whole (Fresh b) (not (sameOrigin (urlOrigin url) (originOf d))) _ b (L Whole (Fresh b) _ b (λ c T. kept-send (Fresh b) _ _ (λ l. whole-touched b N S c T))))
 
   -- CLOSE
-  kept-close : (w : WindowNumber) (d : Document) (x : WindowNumber) → Keeps Whole (Fresh b) (close w d first x) b
+  kept-close : (w : WindowNumber) (d : Document) (x : WindowNumber) → Keeps Whole (Fresh b) (close w d storing x) b
   unfolding close observed
   kept-close w d x = L Whole (Fresh b) _ b (λ c T l. whole-closed b N S c T _)
 
   -- POSTMESSAGE
-  kept-deliver : (w : WindowNumber) (d : Document) (message : ℕ) (to : Addressee) (o : Option Document) → ((e : Document) → o ≡ some e → In e (b documents)) → Keeps Whole (Fresh b) (deliver w d first message to o) b
+  kept-deliver : (w : WindowNumber) (d : Document) (message : ℕ) (to : Addressee) (o : Option Document) → ((e : Document) → o ≡ some e → In e (b documents)) → Keeps Whole (Fresh b) (deliver w d storing message to o) b
   unfolding deliver observed
   kept-deliver w d message to none h = L Whole (Fresh b) _ b (λ c T l. whole-touched b N S c T)
   kept-deliver w d message to (some e) h = L Whole (Fresh b) _ b (λ c T. go (isFor to e) c T)
@@ -110,12 +110,12 @@ module _ (b : Tables) (N : Numbered b) (S : Stands (b windows) (b documents) (b 
       go true c T l = whole-filed b N S c T e (h e refl) (Posted w (originOf d) message)
       go false c T l = whole-touched b N S c T
 
-  kept-post : (w : WindowNumber) (d : Document) (x : WindowNumber) (message : ℕ) (to : Addressee) → Keeps Whole (Fresh b) (postMessage w d first x message to) b
+  kept-post : (w : WindowNumber) (d : Document) (x : WindowNumber) (message : ℕ) (to : Addressee) → Keeps Whole (Fresh b) (postMessage w d storing x message to) b
   unfolding postMessage observed activeDocument
   kept-post w d x message to = kept-needs Whole (Fresh b) NoWindow (observed (reached x) b) _ b (λ top f. kept-deliver w d message to (observed (active x) b) (λ e g. active-in (b documents) x e g .0))
 
   -- EACH COMMAND of an active document
-  kept-command : (w : WindowNumber) (d : Document) → In d (b documents) → (k : Command) → Keeps Whole (Fresh b) (command w d first k) b
+  kept-command : (w : WindowNumber) (d : Document) → In d (b documents) → (k : Command) → Keeps Whole (Fresh b) (command w d storing k) b
   unfolding command
   kept-command w d i Nothing = L Whole (Fresh b) _ b (λ c T l. whole-touched b N S c T)
   kept-command w d i (Href url target noreferrer) = kept-href w d url noreferrer target

@@ -38,7 +38,7 @@ carried Q b c T h = subst₃ Q (sym (T .same-windows)) (sym (T .same-documents))
 
 -- A PRELUDE: a program goes on after it with tables touched so.
 abbrev pub Light : (Program → Program) → Type 1
-Light first = (P : Tables → Type 0) (F : Label → Type 0) (p : Program) (b : Tables) → ((c : Tables) → Touched b c → Keeps P F p c) → Keeps P F (first p) b
+Light storing = (P : Tables → Type 0) (F : Label → Type 0) (p : Program) (b : Tables) → ((c : Tables) → Touched b c → Keeps P F p c) → Keeps P F (storing p) b
 
 map-same : {A : Type 0} (l : List A) → map (λ x. x) l ≡ l
 map-same [] = refl
