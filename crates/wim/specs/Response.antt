@@ -100,8 +100,8 @@ pub data Course : Type 0 where
 
 -- of an answer to a window: by whether that is reached, where the answer redirects to, and its body
 unfoldable pub windowCourse : WindowNumber → Option WindowNumber → Option Url → Body → (Course → Program) → Program
-windowCourse v none to body go = go nothingMore  -- 28, 29; 32
-windowCourse v (some top) (some u) body go = go (followed u)  -- 24
+windowCourse v none to body go = go nothingMore  -- 28, 29, 32
+windowCourse v (some top) (some u) body go = go (followed u)  -- 11, 24
 windowCourse v (some top) none (Number m) go = go nothingMore  -- 33, 34
 windowCourse v (some top) none (Page script state) go = do
   ds ← ask (history v)
@@ -135,7 +135,7 @@ takes (loaded v ds gone script state) w a = do
 takes (handed d earlier matching) w a = do
   edit inputs (file (d .number) earlier (Answered matching (a .body)))  -- 48, 49
   done none  -- 50
-takes nothingMore w a = done none  -- 29, 34
+takes nothingMore w a = done none  -- 29, 34, and where 32 and 47 stop
 
 -- ALGORITHM 8.
 unfoldable pub processResponse : Reference → Waiting → Answer → List Cookie → Program

@@ -164,6 +164,27 @@ xhr-other-origin-is-4 = record {
       ∷ [];
 }
 
+-- CONNECT and TRACE are no methods for an XHR (A7:61, 62), OPTIONS is one.
+abbrev pub xhr-connect-and-trace-are-4 : Run
+xhr-connect-and-trace-are-4 = record {
+  items =
+      "((1:11:17:TRIGGER)(6:urlbar3:new1:P1:51:7()())((6:window1:1)(7:request1:1)(3:dns1:1)))"
+      ∷ "((1:11:1(11:DNSResolved1:51:9(3:dns1:1)))()())"
+      ∷ "((1:11:1(8:HTTPResp(7:request1:1)3:200()(1:11:0)))()((8:document1:1)))"
+      ∷ "((1:11:17:TRIGGER)(6:script(6:window1:1)1:0()()()(14:XMLHTTPREQUEST(3:URL1:P1:51:8()())7:CONNECT1:5()))((7:request1:2)(3:dns1:2)))"
+      ∷ "((1:11:17:TRIGGER)(6:script(6:window1:1)1:0()()()(14:XMLHTTPREQUEST(3:URL1:P1:51:8()())5:TRACE1:5()))((7:request1:2)(3:dns1:2)))"
+      ∷ "((1:11:17:TRIGGER)(6:script(6:window1:1)1:0()()()(14:XMLHTTPREQUEST(3:URL1:P1:51:8()())7:OPTIONS1:5()))((7:request1:2)(3:dns1:2)))"
+      ∷ [];
+  lines =
+      "(1:21:1(10:DNSResolve1:5(3:dns1:1)))"
+      ∷ "(1:91:1(7:HTTPReq(7:request1:1)3:GET1:51:7()((6:Cookie()))()))"
+      ∷ "()"
+      ∷ "4"
+      ∷ "4"
+      ∷ "(1:21:1(10:DNSResolve1:5(3:dns1:2)))"
+      ∷ [];
+}
+
 -- A form neither GET nor POST and wrong fresh numbers: 4.
 abbrev pub order-4-before-5 : Run
 order-4-before-5 = record {
@@ -470,6 +491,7 @@ refusing =
     ∷ window-without-document-is-3
     ∷ urlbar-needs-a-top-window
     ∷ xhr-other-origin-is-4
+    ∷ xhr-connect-and-trace-are-4
     ∷ order-4-before-5
     ∷ order-2-before-8-before-3
     ∷ fresh-number-in-use
