@@ -1,8 +1,8 @@
 #!/usr/bin/env python3
 """Writes the proof files of the typed writers that have no loop: tools/writers.py CRATE [FUNCTION ..], run in the repository.
 
-A writer's contract is `Writes term before at after next` of csexp_write, or `Items terms ..` for terms that may be absent. Its proof is a
-law of csexp_write's proofs/Steps for each call, one to a line: `open_list` or `open_word`, writers of parts and `close_list`, lists in
+A writer's contract is `Writes term before at after next` of csexp, or `Items terms ..` for terms that may be absent. Its proof is a
+law of csexp's proofs/write/Steps for each call, one to a line: `open_list` or `open_word`, writers of parts and `close_list`, lists in
 lists too; a call that ensures `Items` is spliced in. Behind a `match` the tool rewrites by the arm's equation. A return that it has no law
 for, as one behind an `if`, gets a hole. It goes round until no more files come, since a caller's lines are printed only once its callees
 are proved. A loop is proved by hand, over the laws items-.. of the same file."""
@@ -87,7 +87,7 @@ def write(f):
     uses = ['use borrow.Author.Needs.{needs}']
     uses += ['use native.Mathlib.Omega.{arith}'] if 'absent' in laws else []
     uses += ['use mathlib.Core.Path.{_∙_}'] if '∙' in laws else []
-    uses += [f'use Rattle.csexp_write.proofs.Steps.{{{", ".join(sorted(laws - {"∙"}))}}}'] if laws - {'∙'} else []
+    uses += [f'use Rattle.csexp.proofs.write.Steps.{{{", ".join(sorted(laws - {"∙"}))}}}'] if laws - {'∙'} else []
     f.write('a law for each call.', uses, body)
 
 

@@ -5,6 +5,7 @@ pub mod leaf; // one byte, a decimal number, an atom, a word, a number atom
 pub mod shape; // the empty list, a number that may be absent, a labelled number
 pub mod cycle; // any term, and the terms of a list: each reads the other
 pub mod text; // whole texts and the first term of a text, within limits
+pub mod write; // writers into a lent slice
 
 pub use cycle::more_terms;
 pub use cycle::one_term;

@@ -19,7 +19,7 @@ use Rattle.shapes.specs.Events.{Message}
 use Rattle.wim.specs.Nouns.{Fresh, NotFresh, Full}
 use Rattle.wim.specs.Program.{Outcome, refused, made}
 use Rattle.wim.specs.Step.{numbers, given, freshLabels, allFresh, fit, fits, admit}
-use Rattle.numbered.proofs.Fresh.{Absent}
+use Rattle.invariant.proofs.Numbered.Fresh.{Absent}
 use Rattle.either_order.proofs.Listed.{is-false, among-in}
 
 -- FRESH.

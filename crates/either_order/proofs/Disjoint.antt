@@ -16,7 +16,7 @@ use Rattle.wim.specs.Main.{program}
 use Rattle.wim.specs.Step.{freshLabels}
 use Rattle.wim.specs.LocalSteps.{home, topOfHome, stands, hosts}
 use Rattle.wim.specs.Invariant.{Numbered}
-use Rattle.numbered.proofs.Fresh.{Absent}
+use Rattle.invariant.proofs.Numbered.Fresh.{Absent}
 use Rattle.either_order.specs.Statement.{Apart}
 use Rattle.either_order.proofs.Part.{Part, sees}
 use Rattle.either_order.proofs.Keeps.{Owns}

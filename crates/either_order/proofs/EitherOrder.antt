@@ -16,8 +16,8 @@ use Rattle.wim.specs.Main.{cookiesIn, program}
 use Rattle.wim.specs.Step.{freshLabels, fits, stepTables, Browser, declined, accepted, closes, concluded, step}
 use Rattle.wim.specs.LocalSteps.{isLocal, stands, hosts}
 use Rattle.wim.specs.Invariant.{Numbered, MadeTables, untouched, stepped}
-use Rattle.numbered.proofs.Fresh.{fresh-absent}
-use Rattle.numbered.proofs.Steps.{made-numbered}
+use Rattle.invariant.proofs.Numbered.Fresh.{fresh-absent}
+use Rattle.invariant.proofs.Numbered.Steps.{made-numbered}
 use Rattle.either_order.specs.Statement.{Made, empty, next, EightFree, LocalStep, Apart, EitherOrder}
 use Rattle.either_order.proofs.Part.{Level, Whole}
 use Rattle.either_order.proofs.Commute.{side, commute}

@@ -22,7 +22,7 @@ use Rattle.shapes.specs.Events.{Message}
 use Rattle.wim.specs.Nouns.{Refusal, NotFresh}
 use Rattle.wim.specs.Program.{Query, Observed, observed, Program, ask, edit, revise, bring, refuse, done, Outcome, refused, made, run}
 use Rattle.tables.proofs.Update.{linear}
-use Rattle.numbered.proofs.Fresh.{of-kind}
+use Rattle.invariant.proofs.Numbered.Fresh.{of-kind}
 use Rattle.either_order.proofs.Sight.{Even, restrict, Sees, sound}
 use Rattle.either_order.proofs.Part.{Part, sees, Ok, Fixes, level-even, Whole, Moved, whole-moved, moved-self, moved-trans, moved-edit, moved-revise}
 

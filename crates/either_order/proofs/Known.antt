@@ -20,7 +20,7 @@ use Rattle.wim.specs.Program.{question, keyless, keyed, observed}
 use Rattle.wim.specs.LocalSteps.{asked, awaited, home, topOfDocument, topOf, names}
 use Rattle.wim.proofs.Walks.{above-row}
 use Rattle.tables.proofs.Update.{linear}
-use Rattle.numbered.proofs.Fresh.{Absent}
+use Rattle.invariant.proofs.Numbered.Fresh.{Absent}
 use Rattle.wim.proofs.Numbers.{found-document}
 use Rattle.either_order.proofs.Sight.{has-key}
 use Rattle.either_order.proofs.Listed.{tie-mentioned, ref-mentioned}

@@ -12,7 +12,7 @@ use Rattle.tables.specs.Tables.{Table, Row}
 use Rattle.tables.specs.Labels.{Label, code, sameLabel, among, ties, refs, mentions}
 use Rattle.tables.specs.Rows.{sameHost}
 use Rattle.wim.specs.Nouns.{Host}
-use Rattle.numbered.proofs.Fresh.{of-kind}
+use Rattle.invariant.proofs.Numbered.Fresh.{of-kind}
 
 pub is-false : (c : Bool) → (c ≡ true → ⊥) → c ≡ false
 is-false true h = absurd (h refl)

@@ -27,7 +27,7 @@ use Rattle.wim.specs.LocalSteps.{localCommand, isLocal, stands, hosts, commandN
 use Rattle.wim.proofs.Numbers.{same-window, row-numbered}
 use Rattle.wim.proofs.Walks.{reached-row}
 use Rattle.tables.proofs.Update.{linear}
-use Rattle.numbered.proofs.Fresh.{Absent, fresh-absent}
+use Rattle.invariant.proofs.Numbered.Fresh.{Absent, fresh-absent}
 use Rattle.either_order.specs.Statement.{Apart}
 use Rattle.either_order.proofs.Sight.{has-key}
 use Rattle.either_order.proofs.Listed.{tie-mentioned}

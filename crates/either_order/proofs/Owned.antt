@@ -15,7 +15,7 @@ use Rattle.wim.specs.Nouns.{WindowNumber, Host, Reference, Parent, Top, Under, 
 use Rattle.wim.specs.Navigable.{isWindow}
 use Rattle.wim.specs.Invariant.{Numbered}
 use Rattle.wim.proofs.Numbers.{same-window, window-same}
-use Rattle.numbered.proofs.Fresh.{Absent}
+use Rattle.invariant.proofs.Numbered.Fresh.{Absent}
 use Rattle.either_order.proofs.Part.{pulls, pulled-refs, Level}
 use Rattle.either_order.proofs.Listed.{is-false, among-in, hostOneOf, tie-mentioned, ref-mentioned}
 use Rattle.either_order.proofs.Colour.{Colour, colourless, beneath, hosted, topColour, orHost, topOfLabel, entry, colour, colour-leads, colour-child, colour-document, colour-dns, colour-asked, colour-waiting, colour-key}

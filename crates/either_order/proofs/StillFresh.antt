@@ -17,7 +17,7 @@ use Rattle.wim.specs.Program.{made, run}
 use Rattle.wim.specs.Main.{cookiesIn, program}
 use Rattle.wim.specs.Step.{freshLabels}
 use Rattle.wim.specs.LocalSteps.{names, home}
-use Rattle.numbered.proofs.Fresh.{Absent}
+use Rattle.invariant.proofs.Numbered.Fresh.{Absent}
 use Rattle.either_order.specs.Statement.{LocalStep}
 use Rattle.either_order.proofs.Part.{Part, Ok, Same, pulls, pulled-refs, Whole, Moved}
 use Rattle.either_order.proofs.Keeps.{moves}

@@ -17,8 +17,8 @@ use Rattle.csexp.specs.Decode
 use Rattle.csexp.specs.Limits
 use Rattle.csexp.specs.Read
 use Rattle.csexp.specs.Term
-use Rattle.csexp_write.specs.Encode
-use Rattle.csexp_write.specs.Puts
+use Rattle.csexp.specs.Encode
+use Rattle.csexp.specs.Puts
 use Rattle.sorted.specs.Table
 use Rattle.tables.specs.Labels
 use Rattle.tables.specs.Rows

@@ -1,5 +1,5 @@
 // A line of output: the name of a case, and what was written.
-use csexp_write::Written;
+use csexp::write::Written;
 use libc::STDOUT_FILENO;
 use types::Request;
 use types::Sent;

@@ -1,68 +1,84 @@
--- The ways through NAVBACK and NAVFORWARD once the history has been looked at, on any browser.
+-- What programs do that begin with these looks, on any tables and fresh numbers. No code stands here.
 use mathlib.Core.Path.{_≡_, refl, sym, _∙_, ap}
 use mathlib.Core.Bool.{Bool, true, false}
-use mathlib.Core.List.{List, [], _∷_}
+use mathlib.Core.List.{List, []}
 use mathlib.Core.Option.{Option, none, some}
 use Prim.Native.Nat.{ℕ}
-use Rattle.types.specs.declared.browser.Browser.{Browser as State}
-use Rattle.types.specs.declared.browser.Draft.{Draft}
-use Rattle.types.specs.declared.Fresh.{Fresh}
 use Rattle.types.specs.declared.WindowNumber.{WindowNumber}
-use Rattle.types.specs.declared.refusals.Performed.{Performed}
-use Rattle.types.specs.declared.refusals.Refusal.the-variants.{Stopped}
+use Rattle.types.specs.declared.refusals.Missing.the-variants.{NoWindow, NoDocument}
+use Rattle.types.specs.declared.refusals.Refusal.the-variants.{Lacking, Stopped}
 use Rattle.types.specs.declared.rows.Document.{Document}
 use Rattle.sorted.specs.Table.{looked}
-use Rattle.tables.specs.Tables.{documents, pendingDNS, pendingRequests, Tables}
+use Rattle.tables.specs.Tables.{documents, Tables}
 use Rattle.tables.specs.Labels.{Label}
 use Rattle.wim.specs.Walks.{documentsOf, activeAmong}
-use Rattle.wim.specs.Program.{Program, refuse, observed, refused, made, run}
+use Rattle.wim.specs.Program.{Program, ask, observed, reached, active, needs, Outcome, refused, made, run, _>>=_, _>>_}
 use Rattle.wim.specs.History.{neighbour, moved, navBack, navForward}
-use Rattle.wim.specs.Step.{declined, freshLabels}
-use Rattle.wim.specs.View.{rowsOf}
-use Rattle.draft.specs.Holds.{Carries}
-use Rattle.draft.specs.Gives.{Answers}
-use Rattle.performing.proofs.Ways.{refuses, performs-as}
-use Rattle.silent.specs.Ends.{Ends}
+use Rattle.sending.proofs.Cancelling.{bare-cancels-nothing}
+use Rattle.history.specs.declared.Display.{Display}
+use Rattle.history.specs.declared.Display.the-variants.{Lacks, Shows}
 use Rattle.history.specs.declared.Towards.{Towards}
 use Rattle.history.specs.declared.Towards.the-variants.{Before, After}
 use Rattle.history.specs.declared.Way.{Way}
-use Rattle.history.specs.Directions.{nav, beside, places, way, leads, turn, turned}
-use Rattle.history.specs.MovesTowards.{MovesTowards}
+use Rattle.history.specs.Display.{display, displayAt}
+use Rattle.history.specs.Directions.{nav, near, places, way, leads, turn, turned, going}
 
-module _ (w : WindowNumber) (first : Program → Program) where
-  abbrev going : Option (ℕ × ℕ) → Program
-  going none = refuse Stopped
-  going (some z) = first (turn w (z .0) (z .1))
+-- A PROGRAM THAT BEGINS WITH THE LOOK AT A REACHED WINDOW. `displayed w k` of the definitions is `looking w (λ top. k)`, and RUNSCRIPT begins so too.
+abbrev pub looking : WindowNumber → (WindowNumber → Document → Program) → Program
+looking w k = do
+  found ← ask (reached w)
+  top ← needs NoWindow found
+  current ← ask (active w)
+  needs NoDocument current (k top)
 
-  moves : (ds : List Document) (o : Option Document) → moved w first ds o ≡ going (places (activeAmong ds) o)
+-- what it does then
+abbrev pub goesOn : (WindowNumber → Document → Program) → Tables → List Label → Display → Outcome
+goesOn k b f (Lacks m) = refused (Lacking m)
+goesOn k b f (Shows top d) = run (k top d) b f
+
+module _ (w : WindowNumber) (k : WindowNumber → Document → Program) (b : Tables) (f : List Label) where
+  ran-document : (top : WindowNumber) (d : Option Document) → run (needs NoDocument d (k top)) b f ≡ goesOn k b f (display (some top) d)
+  unfolding run
+  ran-document top none = refl
+  ran-document top (some d) = refl
+
+  ran-window : (top : Option WindowNumber) → run (needs NoWindow top (λ t. ask (active w) (λ d. needs NoDocument d (k t)))) b f ≡ goesOn k b f (display top (observed (active w) b))
+  unfolding run
+  ran-window none = refl
+  ran-window (some top) = ran-document top (observed (active w) b)
+
+  ran-look : run (looking w k) b f ≡ goesOn k b f (displayAt w b)
+  unfolding run
+  ran-look = ran-window (observed (reached w) b)
+
+  pub display-goes : (s : Display) → s ≡ displayAt w b → run (looking w k) b f ≡ goesOn k b f s
+  display-goes s e = ran-look ∙ ap (goesOn k b f) (sym e)
+
+-- NAVBACK AND NAVFORWARD, once the history has been looked at.
+module _ (storing : Program → Program) (w : WindowNumber) where
+  moves : (ds : List Document) (o : Option Document) → moved w storing ds o ≡ going storing w (places (activeAmong ds) o)
   unfolding moved
   moves ds none = refl
   moves ds (some e) = refl
 
-  goes : (q : Towards) (b : Tables) (f : List Label) → run (nav q w first) b f ≡ run (going (way q (documentsOf (b documents) w))) b f
+  pub goes : (q : Towards) (b : Tables) (f : List Label) → run (nav q w storing) b f ≡ run (going storing w (way q w (b documents))) b f
   unfolding run observed navBack navForward
-  goes Before b f = let ds = documentsOf (b documents) w in ap (λ (p : Program). run p b f) (moves ds (neighbour (beside Before) ds (activeAmong ds)))
-  goes After b f = let ds = documentsOf (b documents) w in ap (λ (p : Program). run p b f) (moves ds (neighbour (beside After) ds (activeAmong ds)))
+  goes Before b f = let ds = documentsOf (b documents) w in ap (λ (p : Program). run p b f) (moves ds (neighbour (near Before) ds (activeAmong ds)))
+  goes After b f = let ds = documentsOf (b documents) w in ap (λ (p : Program). run p b f) (moves ds (neighbour (near After) ds (activeAmong ds)))
 
-  stops : (b : Tables) (f : List Label) → run (going none) b f ≡ refused Stopped
-  unfolding run
-  stops b f = refl
+  -- 2: "if possible; otherwise stop"
+  module _ (q : Towards) (b : Tables) (f : List Label) (l : Way) (e : leads l ≡ way q w (b documents)) where
+    went : (x : Bool) → l .found ≡ x → run (nav q w storing) b f ≡ run (going storing w (looked x (l .from, l .to))) b f
+    went x t = goes q b f ∙ ap (λ (o : Option (ℕ × ℕ)). run (going storing w o) b f) (sym e ∙ ap (λ (y : Bool). looked y (l .from, l .to)) t)
 
-ran : (w : WindowNumber) (from to : ℕ) (b : Tables) → run (turn w from to) b [] ≡ made (turned w from to b) none
+    pub stops : l .found ≡ false → run (nav q w storing) b f ≡ refused Stopped
+    unfolding run
+    stops t = went false t
+
+    pub turns : l .found ≡ true → run (nav q w storing) b f ≡ run (storing (turn w (l .from) (l .to))) b f
+    turns t = went true t
+
+-- 3 to 6: CANCELNAV with a bare number takes nothing
+pub ran : (w : WindowNumber) (from to : ℕ) (b : Tables) → run (turn w from to) b [] ≡ made (turned w from to b) none
 unfolding run
-ran w from to b = refl
-
-module _ (q : Towards) (w : WindowNumber) (b : State) (d : Draft) (f : Fresh) (r : Performed) (l : Way) (e : leads l ≡ way q (documentsOf (rowsOf b documents) w)) where
-  seen : (first : Program → Program) (x : Bool) → l .found ≡ x → run (nav q w first) (rowsOf b) (freshLabels f) ≡ run (going w first (looked x (l .from, l .to))) (rowsOf b) (freshLabels f)
-  seen first x t =
-      goes w first q (rowsOf b) (freshLabels f)
-      ∙ ap (λ (o : Option (ℕ × ℕ)). run (going w first o) (rowsOf b) (freshLabels f)) (sym e ∙ ap (λ (y : Bool). looked y (l .from, l .to)) t)
-
-  pub nav-stops : l .found ≡ false → Answers b (declined Stopped) r → MovesTowards q w b d f r
-  nav-stops t a = record { performs = λ first ts v x h k. refuses (nav q w first) b f r Stopped (seen first false t ∙ stops w first (rowsOf b) (freshLabels f)) a }
-
-  pub nav-turns : (g : Draft) → l .found ≡ true → Carries (turned w (l .from) (l .to)) [] (pendingRequests ∷ pendingDNS ∷ []) d g → Ends b g f r → MovesTowards q w b d f r
-  nav-turns g t c ends = record {
-    performs = λ first ts v x h k. performs-as (nav q w first) (first (turn w (l .from) (l .to))) b f r (seen first true t)
-        (ends .performs (first (turn w (l .from) (l .to))) ts (turned w (l .from) (l .to) v) (x .brings (turn w (l .from) (l .to)) tt) (x .runs (turn w (l .from) (l .to)) [] ∙ ran w (l .from) (l .to) v) (c .carry ts v h k));
-  }
+ran w from to b = ap (λ (c : Tables). made c none) (bare-cancels-nothing w (turned w from to b))

@@ -1,3 +1,3 @@
--- The two directions of a history, and what going there makes of a draft.
+-- What a look at a reached window comes to; the two directions of a history.
+pub mod Display
 pub mod Directions
-pub mod MovesTowards

@@ -1,32 +1,33 @@
-// The inputs of scripts, by document and arrival. Written by tools/tables.py.
+// The inputs of scripts, by document and arrival, in lent memory. Written by tools/tables.py.
+mod rows; // a row read from its numbers and written as them
+mod tests; // which rows are meant
+
+use memory::Memory;
+use rows::COUNT;
+use rows::FIRST;
+pub use rows::INPUTS;
+use rows::WIDTH;
+use rows::blank;
+pub use rows::row;
+pub use rows::size;
+use rows::write;
+pub use tests::Which;
+use tests::spared;
+use tests::stands;
+use tests::test;
 use types::DocumentNumber;
 use types::DocumentNumbers;
 use types::Label;
-use types::Matching;
-use types::answers::Body;
-use types::browser::INPUTS;
-use types::browser::Inputs;
 use types::rows::Input;
-use types::rows::News;
 ghost use mathlib.Core.Path.{_≡_};
-ghost use mathlib.Core.Bool.{not};
-ghost use mathlib.Core.List.{[]};
-ghost use lib.ListN.{take, length};
-ghost use Rattle.sorted.specs.Order.{same};
-ghost use Rattle.sorted.specs.Table.{find, keep, insert, stand, looked, opened, Sought, Offered};
-ghost use Rattle.tables.specs.Tables.{inputs, keyOf, cmp, cap};
-ghost use Rattle.tables.specs.Labels.{among, mentions, clean};
-ghost use Rattle.tables.specs.Rows.{sameDocument};
+ghost use lib.ListN.{length};
+ghost use Rattle.sorted.specs.Table.{find, keep, looked};
+ghost use Rattle.memory.specs.Rows.{table, Found as Placed, Kept, Put, Cleared};
+ghost use Rattle.tables.specs.Tables.{inputs, keyOf, cmp};
+ghost use Rattle.tables.specs.Labels.{clean};
 ghost use Rattle.tables.specs.View.{labelOf};
-ghost use Rattle.inputs.specs.Which.{passes, spares};
-
-// Which rows are meant.
-pub enum Which {
-    KeyIs(DocumentNumber, u32),
-    KeyIsNot(DocumentNumber, u32),
-    OfDocument(DocumentNumber),
-    Mentions(Label),
-}
+ghost use Rattle.inputs.specs.Which.{passes, keyStands, spares};
+ghost use Rattle.layouts.specs.Tables.{inputsIn};
 
 // A row, if one was found. Where none was, `row` says nothing.
 pub struct Found {
@@ -34,101 +35,14 @@ pub struct Found {
     pub row: Input,
 }
 
-// The table with what was put in, if there was room. Where there was none, `table` says nothing.
-pub struct Offer {
-    pub table: Inputs,
-    pub done: bool,
-}
-
-// A row of which nothing is said.
-fn blank() -> Input {
-    Input {
-        document: DocumentNumber(0),
-        arrival: 0,
-        news: News::Answered(Matching::Unmatched, Body::Number(0)),
-    }
-}
-
-pub fn empty() -> Inputs
-    ensures { λ r. ⌜ take (r .count) (r .rows) ≡ [] ⌝ }
+// The place of the first row that does not stand before a key, whether it has that key, and how many rows count.
+fn seek(m: &Memory, document: DocumentNumber, arrival: u32) -> sorted::At
+    ensures { λ a. ⌜ Placed inputsIn (keyStands document arrival) (now (m .entry)) (a .place) (a .hit) (a .used) ⌝ }
 {
-    let row = blank();
-    Inputs {
-        rows: [row; INPUTS],
-        count: 0,
-    }
-}
-
-// How a key stands to a row's.
-fn stands(document: DocumentNumber, arrival: u32, row: Input) -> sorted::Order
-    ensures { λ r. ⌜ r ≡ cmp inputs (document .0, arrival) (keyOf inputs row) ⌝ }
-{
-    let by_document = sorted::compare(document.0 as u64, row.document.0 as u64);
-    let by_arrival = sorted::compare(arrival as u64, row.arrival as u64);
-    sorted::then(by_document, by_arrival)
-}
-
-fn order(row: Input, other: Input) -> sorted::Order
-    ensures { λ r. ⌜ r ≡ cmp inputs (keyOf inputs row) (keyOf inputs other) ⌝ }
-{
-    let document = row.document;
-    let arrival = row.arrival;
-    stands(document, arrival, other)
-}
-
-fn key_is(row: Input, document: DocumentNumber, arrival: u32) -> bool
-    ensures { λ r. ⌜ r ≡ same (cmp inputs (document .0, arrival) (keyOf inputs row)) ⌝ }
-{
-    sorted::same(stands(document, arrival, row))
-}
-
-fn key_is_not(row: Input, document: DocumentNumber, arrival: u32) -> bool
-    ensures { λ r. ⌜ r ≡ not (same (cmp inputs (document .0, arrival) (keyOf inputs row))) ⌝ }
-{
-    sorted::not(key_is(row, document, arrival))
-}
-
-fn of_document(row: Input, n: DocumentNumber) -> bool
-    ensures { λ r. ⌜ r ≡ sameDocument (row .document) n ⌝ }
-{
-    row.document.0 == n.0
-}
-
-fn mentioned(row: Input, l: Label) -> bool
-    ensures { λ r. ⌜ r ≡ among (labelOf l) (mentions inputs row) ⌝ }
-{
-    let d = row.document;
-    let n = row.news;
-    sorted::either(labels::same(l, Label::OfDocument(d)), labels::in_news(l, n))
-}
-
-fn spared(row: Input, gone: DocumentNumbers) -> bool
-    ensures { λ r. ⌜ r ≡ spares gone row ⌝ }
-{
-    let n = row.document;
-    let among = labels::one_of(n, gone);
-    sorted::not(among)
-}
-
-fn test(row: Input, q: Which) -> bool
-    ensures { λ r. ⌜ r ≡ passes q row ⌝ }
-{
-    match q {
-        Which::KeyIs(document, arrival) => key_is(row, document, arrival),
-        Which::KeyIsNot(document, arrival) => key_is_not(row, document, arrival),
-        Which::OfDocument(n) => of_document(row, n),
-        Which::Mentions(l) => mentioned(row, l),
-    }
-}
-
-// The place of the first row that does not stand before r, whether it has r's key, and how many rows count.
-fn seek(t: Inputs, r: Input) -> sorted::At
-    ensures { λ a. ⌜ Sought (stand (keyOf inputs) (cmp inputs) r) (t .count) (cap inputs) (t .rows) (a .place) (a .hit) (a .used) ⌝ }
-{
-    let n = sorted::used(t.count, INPUTS);
+    let n = size(m);
     let mut i: usize = 0;
     while i < n {
-        let o = order(r, t.rows[i]);
+        let o = stands(document, arrival, row(m, i));
         if sorted::after(o) {
             i += 1;
         } else {
@@ -146,128 +60,134 @@ fn seek(t: Inputs, r: Input) -> sorted::At
     }
 }
 
-// `row` at p, and the rows from p on moved up by one.
-fn insert_at(t: Inputs, p: usize, row: Input) -> Inputs
-    ensures { λ r. ⌜ r .rows ≡ take (cap inputs) (opened p row (t .rows)) ⌝ }
-{
-    let mut u = t;
-    let mut hold = row;
-    let mut i = p;
-    while i < INPUTS {
-        let next = u.rows[i];
-        u.rows[i] = hold;
-        hold = next;
-        i += 1;
-    }
-    u
-}
-
 // The first row that passes a test.
-pub fn first(t: Inputs, q: Which) -> Found
-    ensures { λ r. ⌜ looked (r .found) (r .row) ≡ find (passes q) (take (t .count) (t .rows)) ⌝ }
+pub fn first(m: &Memory, q: Which) -> Found
+    ensures { λ r. ⌜ looked (r .found) (r .row) ≡ find (passes q) (table inputsIn (now (m .entry))) ⌝ }
 {
-    let n = sorted::used(t.count, INPUTS);
+    let n = size(m);
     let mut i: usize = 0;
     while i < n {
-        let row = t.rows[i];
-        if test(row, q) {
+        let found = row(m, i);
+        if test(found, q) {
             return Found {
                 found: true,
-                row: row,
+                row: found,
             };
         }
         i += 1;
     }
-    let row = t.rows[0];
+    let none = blank();
     Found {
         found: false,
-        row: row,
+        row: none,
     }
 }
 
-// The rows that pass a test.
-pub fn keep(t: Inputs, q: Which) -> Inputs
-    ensures { λ r. ⌜ take (r .count) (r .rows) ≡ keep (passes q) (take (t .count) (t .rows)) ⌝ }
+// Only rows that pass a test stay. None is copied onto itself.
+pub fn keep(m: &mut Memory, q: Which)
+    ensures { λ r. ⌜ Kept inputsIn (passes q) (now (m .entry)) (now (m .exit)) ⌝ }
 {
-    let n = sorted::used(t.count, INPUTS);
-    let mut u = t;
+    memory::whole(m);
+    let n = size(m);
     let mut j: usize = 0;
     let mut i: usize = 0;
     while i < n {
-        let row = u.rows[i];
-        if test(row, q) {
-            u.rows[j] = row;
-            j += 1;
-            i += 1;
+        let seen = row(m, i);
+        if test(seen, q) {
+            if j < i {
+                memory::carry(m, FIRST + i * WIDTH, FIRST + j * WIDTH, WIDTH);
+                j += 1;
+                i += 1;
+            } else {
+                j += 1;
+                i += 1;
+            }
         } else {
             i += 1;
         }
     }
-    u.count = j;
-    u
+    m[COUNT] = j as u32;
 }
 
-// The table with a row, in the place of the one with its key; no room where all rows are taken by other keys.
-pub fn put(t: Inputs, row: Input) -> Offer
-    ensures { λ r. ⌜ Offered (cap inputs) (insert (keyOf inputs) (cmp inputs) row (take (t .count) (t .rows))) (take (r .table .count) (r .table .rows)) (r .done) ⌝ }
+// A row goes in, in the place of the one with its key; whether there was room. Where there was none, nothing changes.
+pub fn put(m: &mut Memory, row: Input) -> bool
+    ensures { λ r. ⌜ Put inputsIn (keyOf inputs) (cmp inputs) row (now (m .entry)) (now (m .exit)) r ⌝ }
 {
-    let s = seek(t, row);
+    memory::whole(m);
+    let document = row.document;
+    let arrival = row.arrival;
+    let s = seek(m, document, arrival);
     let at = s.place;
     let n = s.used;
     if s.hit {
-        let mut u = t;
-        u.rows[at] = row;
-        return Offer {
-            table: u,
-            done: true,
-        };
+        write(m, at, row);
+        return true;
     }
     if n < INPUTS {
-        let mut u = insert_at(t, at, row);
-        u.count = n + 1;
-        return Offer {
-            table: u,
-            done: true,
-        };
+        memory::shift(m, FIRST + at * WIDTH, FIRST + n * WIDTH, WIDTH);
+        write(m, at, row);
+        m[COUNT] = (n + 1) as u32;
+        return true;
     }
-    Offer {
-        table: t,
-        done: false,
-    }
+    false
 }
 
-// How many rows count.
-pub fn size(t: Inputs) -> usize
-    ensures { λ r. ⌜ r ≡ length (take (t .count) (t .rows)) ⌝ }
+// No row is left.
+pub fn clear(m: &mut Memory)
+    ensures { λ r. ⌜ Cleared inputsIn (now (m .entry)) (now (m .exit)) ⌝ }
 {
-    sorted::used(t.count, INPUTS)
+    memory::whole(m);
+    m[COUNT] = 0;
 }
 
 // Whether no row speaks of a label.
-pub fn clean(t: Inputs, l: Label) -> bool
-    ensures { λ r. ⌜ r ≡ clean inputs (labelOf l) (take (t .count) (t .rows)) ⌝ }
+pub fn clean(m: &Memory, l: Label) -> bool
+    ensures { λ r. ⌜ r ≡ clean inputs (labelOf l) (table inputsIn (now (m .entry))) ⌝ }
 {
-    sorted::not(first(t, Which::Mentions(l)).found)
+    sorted::not(first(m, Which::Mentions(l)).found)
 }
 
-// The rows that are spared.
-pub fn without(t: Inputs, gone: DocumentNumbers) -> Inputs
-    ensures { λ r. ⌜ take (r .count) (r .rows) ≡ keep (spares gone) (take (t .count) (t .rows)) ⌝ }
+// Only rows that are spared stay.
+pub fn without(m: &mut Memory, gone: DocumentNumbers)
+    ensures { λ r. ⌜ Kept inputsIn (spares gone) (now (m .entry)) (now (m .exit)) ⌝ }
 {
-    let n = sorted::used(t.count, INPUTS);
-    let mut u = t;
+    memory::whole(m);
+    let n = size(m);
     let mut k: usize = 0;
     let mut i: usize = 0;
     while i < n {
-        let row = u.rows[i];
-        if spared(row, gone) {
-            u.rows[k] = row;
-            k += 1;
+        let seen = row(m, i);
+        if spared(seen, gone) {
+            if k < i {
+                memory::carry(m, FIRST + i * WIDTH, FIRST + k * WIDTH, WIDTH);
+                k += 1;
+                i += 1;
+            } else {
+                k += 1;
+                i += 1;
+            }
+        } else {
+            i += 1;
+        }
+    }
+    m[COUNT] = k as u32;
+}
+
+// How many rows pass a test.
+pub fn tally(m: &Memory, q: Which) -> usize
+    ensures { λ r. ⌜ r ≡ length (keep (passes q) (table inputsIn (now (m .entry)))) ⌝ }
+{
+    let n = size(m);
+    let mut some: usize = 0;
+    let mut i: usize = 0;
+    while i < n {
+        let seen = row(m, i);
+        if test(seen, q) {
+            some += 1;
             i += 1;
         } else {
             i += 1;
         }
     }
-    u.count = k;
-    u
+    some
 }

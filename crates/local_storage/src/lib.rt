@@ -1,25 +1,28 @@
-// What scripts keep in local storage, by origin. Written by tools/tables.py.
+// What scripts keep in local storage, by origin, in lent memory. Written by tools/tables.py.
+mod rows; // a row read from its numbers and written as them
+mod tests; // which rows are meant
+
+use memory::Memory;
+use rows::COUNT;
+use rows::FIRST;
+pub use rows::LOCAL_STORAGE;
+use rows::WIDTH;
+use rows::blank;
+pub use rows::row;
+pub use rows::size;
+use rows::write;
+pub use tests::Which;
+use tests::stands;
+use tests::test;
 use types::Host;
-use types::Origin;
 use types::Protocol;
-use types::browser::LOCAL_STORAGE;
-use types::browser::LocalStorage;
-use types::items::Stored;
 use types::rows::LocalValue;
 ghost use mathlib.Core.Path.{_≡_};
-ghost use mathlib.Core.Bool.{not};
-ghost use mathlib.Core.List.{[]};
-ghost use lib.ListN.{take};
-ghost use Rattle.sorted.specs.Order.{same};
-ghost use Rattle.sorted.specs.Table.{find, keep, insert, stand, looked, opened, Sought, Offered};
-ghost use Rattle.tables.specs.Tables.{localStorage, keyOf, cmp, cap, isSecure};
-ghost use Rattle.local_storage.specs.Which.{passes};
-
-// Which rows are meant.
-pub enum Which {
-    KeyIs(Host, Protocol),
-    KeyIsNot(Host, Protocol),
-}
+ghost use Rattle.sorted.specs.Table.{find, looked};
+ghost use Rattle.memory.specs.Rows.{table, Found as Placed, Kept, Put, Cleared};
+ghost use Rattle.tables.specs.Tables.{localStorage, keyOf, cmp};
+ghost use Rattle.local_storage.specs.Which.{passes, keyStands};
+ghost use Rattle.layouts.specs.Tables.{localIn};
 
 // A row, if one was found. Where none was, `row` says nothing.
 pub struct Found {
@@ -27,84 +30,14 @@ pub struct Found {
     pub row: LocalValue,
 }
 
-// The table with what was put in, if there was room. Where there was none, `table` says nothing.
-pub struct Offer {
-    pub table: LocalStorage,
-    pub done: bool,
-}
-
-// A row of which nothing is said.
-fn blank() -> LocalValue {
-    LocalValue {
-        origin: Origin {
-            host: Host(0),
-            protocol: Protocol::Plain,
-        },
-        value: Stored(0),
-    }
-}
-
-pub fn empty() -> LocalStorage
-    ensures { λ r. ⌜ take (r .count) (r .rows) ≡ [] ⌝ }
+// The place of the first row that does not stand before a key, whether it has that key, and how many rows count.
+fn seek(m: &Memory, host: Host, protocol: Protocol) -> sorted::At
+    ensures { λ a. ⌜ Placed localIn (keyStands host protocol) (now (m .entry)) (a .place) (a .hit) (a .used) ⌝ }
 {
-    let row = blank();
-    LocalStorage {
-        rows: [row; LOCAL_STORAGE],
-        count: 0,
-    }
-}
-
-// How a key stands to a row's.
-fn stands(host: Host, protocol: Protocol, row: LocalValue) -> sorted::Order
-    ensures { λ r. ⌜ r ≡ cmp localStorage (host .0, isSecure protocol) (keyOf localStorage row) ⌝ }
-{
-    let by_host = sorted::compare(host.0 as u64, row.origin.host.0 as u64);
-    let origin = row.origin;
-    let own = origin.protocol;
-    let mine = labels::is_secure(protocol);
-    let its = labels::is_secure(own);
-    let by_protocol = sorted::compare_bools(mine, its);
-    sorted::then(by_host, by_protocol)
-}
-
-fn order(row: LocalValue, other: LocalValue) -> sorted::Order
-    ensures { λ r. ⌜ r ≡ cmp localStorage (keyOf localStorage row) (keyOf localStorage other) ⌝ }
-{
-    let origin = row.origin;
-    let host = origin.host;
-    let protocol = origin.protocol;
-    stands(host, protocol, other)
-}
-
-fn key_is(row: LocalValue, host: Host, protocol: Protocol) -> bool
-    ensures { λ r. ⌜ r ≡ same (cmp localStorage (host .0, isSecure protocol) (keyOf localStorage row)) ⌝ }
-{
-    sorted::same(stands(host, protocol, row))
-}
-
-fn key_is_not(row: LocalValue, host: Host, protocol: Protocol) -> bool
-    ensures { λ r. ⌜ r ≡ not (same (cmp localStorage (host .0, isSecure protocol) (keyOf localStorage row))) ⌝ }
-{
-    sorted::not(key_is(row, host, protocol))
-}
-
-fn test(row: LocalValue, q: Which) -> bool
-    ensures { λ r. ⌜ r ≡ passes q row ⌝ }
-{
-    match q {
-        Which::KeyIs(host, protocol) => key_is(row, host, protocol),
-        Which::KeyIsNot(host, protocol) => key_is_not(row, host, protocol),
-    }
-}
-
-// The place of the first row that does not stand before r, whether it has r's key, and how many rows count.
-fn seek(t: LocalStorage, r: LocalValue) -> sorted::At
-    ensures { λ a. ⌜ Sought (stand (keyOf localStorage) (cmp localStorage) r) (t .count) (cap localStorage) (t .rows) (a .place) (a .hit) (a .used) ⌝ }
-{
-    let n = sorted::used(t.count, LOCAL_STORAGE);
+    let n = size(m);
     let mut i: usize = 0;
     while i < n {
-        let o = order(r, t.rows[i]);
+        let o = stands(host, protocol, row(m, i));
         if sorted::after(o) {
             i += 1;
         } else {
@@ -122,92 +55,83 @@ fn seek(t: LocalStorage, r: LocalValue) -> sorted::At
     }
 }
 
-// `row` at p, and the rows from p on moved up by one.
-fn insert_at(t: LocalStorage, p: usize, row: LocalValue) -> LocalStorage
-    ensures { λ r. ⌜ r .rows ≡ take (cap localStorage) (opened p row (t .rows)) ⌝ }
-{
-    let mut u = t;
-    let mut hold = row;
-    let mut i = p;
-    while i < LOCAL_STORAGE {
-        let next = u.rows[i];
-        u.rows[i] = hold;
-        hold = next;
-        i += 1;
-    }
-    u
-}
-
 // The first row that passes a test.
-pub fn first(t: LocalStorage, q: Which) -> Found
-    ensures { λ r. ⌜ looked (r .found) (r .row) ≡ find (passes q) (take (t .count) (t .rows)) ⌝ }
+pub fn first(m: &Memory, q: Which) -> Found
+    ensures { λ r. ⌜ looked (r .found) (r .row) ≡ find (passes q) (table localIn (now (m .entry))) ⌝ }
 {
-    let n = sorted::used(t.count, LOCAL_STORAGE);
+    let n = size(m);
     let mut i: usize = 0;
     while i < n {
-        let row = t.rows[i];
-        if test(row, q) {
+        let found = row(m, i);
+        if test(found, q) {
             return Found {
                 found: true,
-                row: row,
+                row: found,
             };
         }
         i += 1;
     }
-    let row = t.rows[0];
+    let none = blank();
     Found {
         found: false,
-        row: row,
+        row: none,
     }
 }
 
-// The rows that pass a test.
-pub fn keep(t: LocalStorage, q: Which) -> LocalStorage
-    ensures { λ r. ⌜ take (r .count) (r .rows) ≡ keep (passes q) (take (t .count) (t .rows)) ⌝ }
+// Only rows that pass a test stay. None is copied onto itself.
+pub fn keep(m: &mut Memory, q: Which)
+    ensures { λ r. ⌜ Kept localIn (passes q) (now (m .entry)) (now (m .exit)) ⌝ }
 {
-    let n = sorted::used(t.count, LOCAL_STORAGE);
-    let mut u = t;
+    memory::whole(m);
+    let n = size(m);
     let mut j: usize = 0;
     let mut i: usize = 0;
     while i < n {
-        let row = u.rows[i];
-        if test(row, q) {
-            u.rows[j] = row;
-            j += 1;
-            i += 1;
+        let seen = row(m, i);
+        if test(seen, q) {
+            if j < i {
+                memory::carry(m, FIRST + i * WIDTH, FIRST + j * WIDTH, WIDTH);
+                j += 1;
+                i += 1;
+            } else {
+                j += 1;
+                i += 1;
+            }
         } else {
             i += 1;
         }
     }
-    u.count = j;
-    u
+    m[COUNT] = j as u32;
 }
 
-// The table with a row, in the place of the one with its key; no room where all rows are taken by other keys.
-pub fn put(t: LocalStorage, row: LocalValue) -> Offer
-    ensures { λ r. ⌜ Offered (cap localStorage) (insert (keyOf localStorage) (cmp localStorage) row (take (t .count) (t .rows))) (take (r .table .count) (r .table .rows)) (r .done) ⌝ }
+// A row goes in, in the place of the one with its key; whether there was room. Where there was none, nothing changes.
+pub fn put(m: &mut Memory, row: LocalValue) -> bool
+    ensures { λ r. ⌜ Put localIn (keyOf localStorage) (cmp localStorage) row (now (m .entry)) (now (m .exit)) r ⌝ }
 {
-    let s = seek(t, row);
+    memory::whole(m);
+    let origin = row.origin;
+    let host = origin.host;
+    let protocol = origin.protocol;
+    let s = seek(m, host, protocol);
     let at = s.place;
     let n = s.used;
     if s.hit {
-        let mut u = t;
-        u.rows[at] = row;
-        return Offer {
-            table: u,
-            done: true,
-        };
+        write(m, at, row);
+        return true;
     }
     if n < LOCAL_STORAGE {
-        let mut u = insert_at(t, at, row);
-        u.count = n + 1;
-        return Offer {
-            table: u,
-            done: true,
-        };
+        memory::shift(m, FIRST + at * WIDTH, FIRST + n * WIDTH, WIDTH);
+        write(m, at, row);
+        m[COUNT] = (n + 1) as u32;
+        return true;
     }
-    Offer {
-        table: t,
-        done: false,
-    }
+    false
+}
+
+// No row is left.
+pub fn clear(m: &mut Memory)
+    ensures { λ r. ⌜ Cleared localIn (now (m .entry)) (now (m .exit)) ⌝ }
+{
+    memory::whole(m);
+    m[COUNT] = 0;
 }

@@ -9,8 +9,8 @@ use lib.ListN.{length}
 use Rattle.sorted.specs.Table.{looked}
 use Rattle.tables.specs.Rows.{sameWindow, originOf, sameOrigin}
 use Rattle.wim.specs.Nouns.{WindowNumber, Origin, Window, Document, Opener}
-use Rattle.wim.specs.Walks.{activeDocument, hasOrigin, Above, heldBy, above, steps, topAbove, isReached}
-use Rattle.wim.specs.Navigable.{openerOf, ancestorHas, isWindow, navigableDirectly, follows, mayNavigate, ancestorAt}
+use Rattle.wim.specs.Walks.{activeDocument, hasOrigin, Above, heldBy, above, steps, reachedFrom, isReached}
+use Rattle.wim.specs.Navigable.{openerOf, ancestorAt, ancestorHas, isWindow, navigableDirectly, follows, mayNavigate}
 use Rattle.wim.proofs.Navigable.{byOpener}
 use Rattle.walks.proofs.Up.{no-step, a-step}
 
@@ -29,12 +29,9 @@ module _ (ws : List Window) (ds : List Document) (o : Origin) (v : WindowNumber)
   unfolding ancestorHas
   ancestor-none e = no-step (λ k. ancestorHas k ws ds o v) e refl
 
-  pub ancestor-climbs : (u : Above) → (n ≡ 0 → ⊥) → u ≡ above ws ds v
-      → ancestorAt (ancestorHas (n - 1) ws ds o) ds o u ≡ ancestorHas n ws ds o v
+  pub ancestor-at : (u : Above) → (n ≡ 0 → ⊥) → u ≡ above ws ds v → ancestorAt (ancestorHas (n - 1) ws ds o) ds o u ≡ ancestorHas n ws ds o v
   unfolding ancestorHas
-  ancestor-climbs u e f =
-      a-step (λ k. ancestorHas k ws ds o v) e
-      (ap (ancestorAt (ancestorHas (n - 1) ws ds o) ds o) f)
+  ancestor-at u e f = a-step (λ k. ancestorHas k ws ds o v) e (ap (ancestorAt (ancestorHas (n - 1) ws ds o) ds o) f)
 
   module _ (d : Document) (e : n ≡ 0 → ⊥) (f : heldBy d ≡ above ws ds v) where
     abbrev further : Bool
@@ -45,30 +42,30 @@ module _ (ws : List Window) (ds : List Document) (o : Origin) (v : WindowNumber)
 
     pub ancestor-this : {h : Bool} → d .active ≡ true → h ≡ origin → h ≡ true → true ≡ ancestorHas n ws ds o v
     ancestor-this a g h =
-        ap (λ (b : Bool). b || further) (sym (sym g ∙ h)) ∙ ap (λ (b : Bool). b && (origin || further)) (sym a) ∙ ancestor-climbs (heldBy d) e f
+        ap (λ (b : Bool). b || further) (sym (sym g ∙ h)) ∙ ap (λ (b : Bool). b && (origin || further)) (sym a) ∙ ancestor-at (heldBy d) e f
 
     pub ancestor-further : {h x : Bool} → d .active ≡ true → h ≡ origin → h ≡ false → x ≡ further → x ≡ ancestorHas n ws ds o v
     ancestor-further a g h k =
-        k ∙ ap (λ (b : Bool). b || further) (sym (sym g ∙ h)) ∙ ap (λ (b : Bool). b && (origin || further)) (sym a) ∙ ancestor-climbs (heldBy d) e f
+        k ∙ ap (λ (b : Bool). b || further) (sym (sym g ∙ h)) ∙ ap (λ (b : Bool). b && (origin || further)) (sym a) ∙ ancestor-at (heldBy d) e f
 
     pub ancestor-ends : d .active ≡ false → false ≡ ancestorHas n ws ds o v
-    ancestor-ends a = ap (λ (b : Bool). b && (origin || further)) (sym a) ∙ ancestor-climbs (heldBy d) e f
+    ancestor-ends a = ap (λ (b : Bool). b && (origin || further)) (sym a) ∙ ancestor-at (heldBy d) e f
 
 -- RULES 1 TO 3.
 module _ (ws : List Window) (ds : List Document) (o : Origin) (w v : WindowNumber) where
   pub by-origin : {h : Bool} → h ≡ hasOrigin o (activeDocument ds v) → h ≡ true → true ≡ navigableDirectly ws ds o w v
   unfolding navigableDirectly
-  by-origin e h = ap (λ (b : Bool). b || (isWindow v (topAbove steps ws ds w) || ancestorHas steps ws ds o v)) (sym (sym e ∙ h))
+  by-origin e h = ap (λ (b : Bool). b || (isWindow v (reachedFrom steps ws ds w) || ancestorHas steps ws ds o v)) (sym (sym e ∙ h))
 
-  not-by-origin : {h x : Bool} → h ≡ hasOrigin o (activeDocument ds v) → h ≡ false → x ≡ (isWindow v (topAbove steps ws ds w) || ancestorHas steps ws ds o v) → x ≡ navigableDirectly ws ds o w v
+  not-by-origin : {h x : Bool} → h ≡ hasOrigin o (activeDocument ds v) → h ≡ false → x ≡ (isWindow v (reachedFrom steps ws ds w) || ancestorHas steps ws ds o v) → x ≡ navigableDirectly ws ds o w v
   unfolding navigableDirectly
-  not-by-origin e h k = k ∙ ap (λ (b : Bool). b || (isWindow v (topAbove steps ws ds w) || ancestorHas steps ws ds o v)) (sym (sym e ∙ h))
+  not-by-origin e h k = k ∙ ap (λ (b : Bool). b || (isWindow v (reachedFrom steps ws ds w) || ancestorHas steps ws ds o v)) (sym (sym e ∙ h))
 
   module _ {h : Bool} (e : h ≡ hasOrigin o (activeDocument ds v)) (f : h ≡ false) where
-    pub by-top : {t : Option WindowNumber} {x : Bool} → t ≡ topAbove steps ws ds w → x ≡ isWindow v t → x ≡ true → true ≡ navigableDirectly ws ds o w v
+    pub by-top : {t : Option WindowNumber} {x : Bool} → t ≡ reachedFrom steps ws ds w → x ≡ isWindow v t → x ≡ true → true ≡ navigableDirectly ws ds o w v
     by-top g i k = not-by-origin e f (ap (λ (b : Bool). b || ancestorHas steps ws ds o v) (sym (sym (i ∙ ap (isWindow v) g) ∙ k)))
 
-    pub by-ancestor : {t : Option WindowNumber} {x y : Bool} → t ≡ topAbove steps ws ds w → x ≡ isWindow v t → x ≡ false → y ≡ ancestorHas steps ws ds o v → y ≡ navigableDirectly ws ds o w v
+    pub by-ancestor : {t : Option WindowNumber} {x y : Bool} → t ≡ reachedFrom steps ws ds w → x ≡ isWindow v t → x ≡ false → y ≡ ancestorHas steps ws ds o v → y ≡ navigableDirectly ws ds o w v
     by-ancestor g i k a = not-by-origin e f (a ∙ ap (λ (b : Bool). b || ancestorHas steps ws ds o v) (sym (sym (i ∙ ap (isWindow v) g) ∙ k)))
 
   -- ALL FOUR, n windows left.
@@ -89,8 +86,8 @@ module _ (ws : List Window) (ds : List Document) (o : Origin) (w v : WindowNumbe
       reached h k = follows-more e (k ∙ ap (λ (b : Bool). b && (navigableDirectly ws ds o w v || byOpener (follows (n - 1) ws ds o w) (openerOf ws v))) (sym (sym f ∙ h)))
 
       module _ {s : Bool} (h : r ≡ true) (g : s ≡ navigableDirectly ws ds o w v) where
-        pub follows-reachable : s ≡ true → true ≡ follows n ws ds o w v
-        follows-reachable i = reached h (ap (λ (b : Bool). b || byOpener (follows (n - 1) ws ds o w) (openerOf ws v)) (sym (sym g ∙ i)))
+        pub follows-directly : s ≡ true → true ≡ follows n ws ds o w v
+        follows-directly i = reached h (ap (λ (b : Bool). b || byOpener (follows (n - 1) ws ds o w) (openerOf ws v)) (sym (sym g ∙ i)))
 
         pub follows-opener : {x : Bool} (p : Opener) → s ≡ false → p ≡ openerOf ws v → x ≡ byOpener (follows (n - 1) ws ds o w) p → x ≡ follows n ws ds o w v
         follows-opener p i j k =

@@ -1,4 +1,4 @@
--- The set of a window: shown or not, and its first row.
+-- The set of a window: displayed or not, and its first row.
 use mathlib.Core.Path.{_≡_, refl, sym, _∙_, ap}
 use mathlib.Core.Bool.{Bool, true, false, _&&_}
 use mathlib.Core.List.{List}
@@ -20,9 +20,9 @@ use Rattle.wim.proofs.NavigableMask.{navigable-first, unreached-none, undocumen
 use Rattle.navigable.specs.First.{FirstRow}
 
 module _ (ws : List Window) (ds : List Document) (w : WindowNumber) where
-  pub set-shown : (r b : Bool) (d : Document) {o : Origin} {m : ℕ} → r ≡ isReached ws ds w → looked b d ≡ activeDocument ds w → (r && b) ≡ true → o ≡ originOf d
+  pub set-displayed : (r b : Bool) (d : Document) {o : Origin} {m : ℕ} → r ≡ isReached ws ds w → looked b d ≡ activeDocument ds w → (r && b) ≡ true → o ≡ originOf d
       → m ≡ maskOf (mayNavigate ws ds o w) ws → m ≡ navigableMask ws ds w
-  set-shown r b d e f h i k =
+  set-displayed r b d e f h i k =
       k ∙ ap (λ (o : Origin). maskOf (mayNavigate ws ds o w) ws) i
       ∙ sym (displayed-mask ws ds w d (sym e ∙ and-left r b h) (sym f ∙ ap (λ (x : Bool). looked x d) (and-right r b h)))
 
@@ -32,8 +32,8 @@ module _ (ws : List Window) (ds : List Document) (w : WindowNumber) where
   set-empty false b d e f h = sym (unreached-none ws ds w (sym e))
 
   -- what is not empty is the set of a reached window
-  is-shown : 0 < navigableMask ws ds w → isReached ws ds w ≡ true
-  is-shown h = go (isReached ws ds w) refl
+  is-displayed : 0 < navigableMask ws ds w → isReached ws ds w ≡ true
+  is-displayed h = go (isReached ws ds w) refl
     where
       go : (b : Bool) → isReached ws ds w ≡ b → b ≡ true
       go true e = refl
@@ -44,7 +44,7 @@ module _ (ws : List Window) (ds : List Document) (w : WindowNumber) where
       record {
         has = ap (λ (k : ℕ). ltb 0 k) e;
         within = λ h. go (activeDocument ds w) refl (pos h);
-        first = λ h d a x. rw e (navigable-first ws ds w d (is-shown (pos h)) a 32 l (pos h) .1 x);
+        first = λ h d a x. rw e (navigable-first ws ds w d (is-displayed (pos h)) a 32 l (pos h) .1 x);
       }
     where
       pos : ltb 0 m ≡ true → 0 < navigableMask ws ds w
@@ -52,4 +52,4 @@ module _ (ws : List Window) (ds : List Document) (w : WindowNumber) where
 
       go : (a : Option Document) → activeDocument ds w ≡ a → 0 < navigableMask ws ds w → trailingZeros 32 m < length ws
       go none f p = let z = undocumented-none ws ds w f in absurd (omega arith)
-      go (some d) f p = rw e (navigable-first ws ds w d (is-shown p) f 32 l p .0)
+      go (some d) f p = rw e (navigable-first ws ds w d (is-displayed p) f 32 l p .0)

@@ -1,30 +1,32 @@
-// The requests that wait for their host's address, by number. Written by tools/tables.py.
+// The requests that wait for their host's address, by number, in lent memory. Written by tools/tables.py.
+mod rows; // a row read from its numbers and written as them
+mod tests; // which rows are meant
+
+use memory::Memory;
+use rows::COUNT;
+use rows::FIRST;
+pub use rows::PENDING_DNS;
+use rows::WIDTH;
+use rows::blank;
+use rows::head_at;
+pub use rows::row;
+pub use rows::size;
+use rows::write;
+pub use tests::Which;
+use tests::stands;
+use tests::test;
 use types::DnsNumber;
 use types::Label;
-use types::Reference;
-use types::WindowNumber;
-use types::browser::PENDING_DNS;
-use types::browser::PendingDns;
 use types::rows::Question;
 ghost use mathlib.Core.Path.{_≡_};
-ghost use mathlib.Core.Bool.{not};
-ghost use mathlib.Core.List.{[]};
-ghost use lib.ListN.{take};
-ghost use Rattle.sorted.specs.Order.{same};
-ghost use Rattle.sorted.specs.Table.{find, keep, insert, stand, looked, opened, Sought, Offered};
-ghost use Rattle.tables.specs.Tables.{pendingDNS, keyOf, cmp, cap};
-ghost use Rattle.tables.specs.Labels.{among, mentions, clean};
-ghost use Rattle.tables.specs.Rows.{sameReference};
+ghost use Rattle.sorted.specs.Table.{find, looked};
+ghost use Rattle.memory.specs.Rows.{table, Found as Placed, Kept, Put, Cleared};
+ghost use Rattle.tables.specs.Tables.{pendingDNS, keyOf, cmp};
+ghost use Rattle.tables.specs.Labels.{clean};
 ghost use Rattle.tables.specs.View.{labelOf};
-ghost use Rattle.pending_dns.specs.Which.{passes};
-
-// Which rows are meant.
-pub enum Which {
-    KeyIs(DnsNumber),
-    KeyIsNot(DnsNumber),
-    NotFor(Reference),
-    Mentions(Label),
-}
+ghost use Rattle.pending_dns.specs.Which.{passes, keyStands};
+ghost use Rattle.layouts.specs.Tables.{questionsIn};
+ghost use Rattle.pending_dns.specs.Tidied.{tidied};
 
 // A row, if one was found. Where none was, `row` says nothing.
 pub struct Found {
@@ -32,102 +34,14 @@ pub struct Found {
     pub row: Question,
 }
 
-// The table with what was put in, if there was room. Where there was none, `table` says nothing.
-pub struct Offer {
-    pub table: PendingDns,
-    pub done: bool,
-}
-
-// A row of which nothing is said.
-fn blank() -> Question {
-    let request = labels::no_request();
-    let url = labels::no_url();
-    Question {
-        number: DnsNumber(0),
-        reference: Reference::Req(WindowNumber(0)),
-        request: request,
-        url: url,
-    }
-}
-
-pub fn empty() -> PendingDns
-    ensures { λ r. ⌜ take (r .count) (r .rows) ≡ [] ⌝ }
+// The place of the first row that does not stand before a key, whether it has that key, and how many rows count.
+fn seek(m: &Memory, number: DnsNumber) -> sorted::At
+    ensures { λ a. ⌜ Placed questionsIn (keyStands number) (now (m .entry)) (a .place) (a .hit) (a .used) ⌝ }
 {
-    let row = blank();
-    PendingDns {
-        rows: [row; PENDING_DNS],
-        count: 0,
-    }
-}
-
-// How a key stands to a row's.
-fn stands(number: DnsNumber, row: Question) -> sorted::Order
-    ensures { λ r. ⌜ r ≡ cmp pendingDNS (number .0) (keyOf pendingDNS row) ⌝ }
-{
-    sorted::compare(number.0 as u64, row.number.0 as u64)
-}
-
-fn order(row: Question, other: Question) -> sorted::Order
-    ensures { λ r. ⌜ r ≡ cmp pendingDNS (keyOf pendingDNS row) (keyOf pendingDNS other) ⌝ }
-{
-    let number = row.number;
-    stands(number, other)
-}
-
-fn key_is(row: Question, number: DnsNumber) -> bool
-    ensures { λ r. ⌜ r ≡ same (cmp pendingDNS (number .0) (keyOf pendingDNS row)) ⌝ }
-{
-    sorted::same(stands(number, row))
-}
-
-fn key_is_not(row: Question, number: DnsNumber) -> bool
-    ensures { λ r. ⌜ r ≡ not (same (cmp pendingDNS (number .0) (keyOf pendingDNS row))) ⌝ }
-{
-    sorted::not(key_is(row, number))
-}
-
-fn not_for(row: Question, s: Reference) -> bool
-    ensures { λ r. ⌜ r ≡ not (sameReference s (row .reference)) ⌝ }
-{
-    let own = row.reference;
-    let same = labels::same_reference(s, own);
-    sorted::not(same)
-}
-
-fn mentioned(row: Question, l: Label) -> bool
-    ensures { λ r. ⌜ r ≡ among (labelOf l) (mentions pendingDNS row) ⌝ }
-{
-    let n = row.number;
-    let q = row.request.number;
-    let p = row.reference;
-    sorted::either(
-        labels::same(l, Label::OfDns(n)),
-        sorted::either(
-            labels::same(l, Label::OfRequest(q)),
-            labels::in_reference(l, p),
-        ),
-    )
-}
-
-fn test(row: Question, q: Which) -> bool
-    ensures { λ r. ⌜ r ≡ passes q row ⌝ }
-{
-    match q {
-        Which::KeyIs(number) => key_is(row, number),
-        Which::KeyIsNot(number) => key_is_not(row, number),
-        Which::NotFor(s) => not_for(row, s),
-        Which::Mentions(l) => mentioned(row, l),
-    }
-}
-
-// The place of the first row that does not stand before r, whether it has r's key, and how many rows count.
-fn seek(t: PendingDns, r: Question) -> sorted::At
-    ensures { λ a. ⌜ Sought (stand (keyOf pendingDNS) (cmp pendingDNS) r) (t .count) (cap pendingDNS) (t .rows) (a .place) (a .hit) (a .used) ⌝ }
-{
-    let n = sorted::used(t.count, PENDING_DNS);
+    let n = size(m);
     let mut i: usize = 0;
     while i < n {
-        let o = order(r, t.rows[i]);
+        let o = stands(number, head_at(m, i));
         if sorted::after(o) {
             i += 1;
         } else {
@@ -145,99 +59,89 @@ fn seek(t: PendingDns, r: Question) -> sorted::At
     }
 }
 
-// `row` at p, and the rows from p on moved up by one.
-fn insert_at(t: PendingDns, p: usize, row: Question) -> PendingDns
-    ensures { λ r. ⌜ r .rows ≡ take (cap pendingDNS) (opened p row (t .rows)) ⌝ }
-{
-    let mut u = t;
-    let mut hold = row;
-    let mut i = p;
-    while i < PENDING_DNS {
-        let next = u.rows[i];
-        u.rows[i] = hold;
-        hold = next;
-        i += 1;
-    }
-    u
-}
-
 // The first row that passes a test.
-pub fn first(t: PendingDns, q: Which) -> Found
-    ensures { λ r. ⌜ looked (r .found) (r .row) ≡ find (passes q) (take (t .count) (t .rows)) ⌝ }
+pub fn first(m: &Memory, q: Which) -> Found
+    ensures { λ r. ⌜ looked (r .found) (r .row) ≡ find (passes q) (table questionsIn (now (m .entry))) ⌝ }
 {
-    let n = sorted::used(t.count, PENDING_DNS);
+    let n = size(m);
     let mut i: usize = 0;
     while i < n {
-        let row = t.rows[i];
-        if test(row, q) {
+        let h = head_at(m, i);
+        if test(h, q) {
+            let found = row(m, i);
             return Found {
                 found: true,
-                row: row,
+                row: found,
             };
         }
         i += 1;
     }
-    let row = t.rows[0];
+    let none = blank();
     Found {
         found: false,
-        row: row,
+        row: none,
     }
 }
 
-// The rows that pass a test.
-pub fn keep(t: PendingDns, q: Which) -> PendingDns
-    ensures { λ r. ⌜ take (r .count) (r .rows) ≡ keep (passes q) (take (t .count) (t .rows)) ⌝ }
+// Only rows that pass a test stay. None is copied onto itself.
+pub fn keep(m: &mut Memory, q: Which)
+    ensures { λ r. ⌜ Kept questionsIn (passes q) (now (m .entry)) (now (m .exit)) ⌝ }
 {
-    let n = sorted::used(t.count, PENDING_DNS);
-    let mut u = t;
+    memory::whole(m);
+    let n = size(m);
     let mut j: usize = 0;
     let mut i: usize = 0;
     while i < n {
-        let row = u.rows[i];
-        if test(row, q) {
-            u.rows[j] = row;
-            j += 1;
-            i += 1;
+        let h = head_at(m, i);
+        if test(h, q) {
+            if j < i {
+                memory::carry(m, FIRST + i * WIDTH, FIRST + j * WIDTH, WIDTH);
+                j += 1;
+                i += 1;
+            } else {
+                j += 1;
+                i += 1;
+            }
         } else {
             i += 1;
         }
     }
-    u.count = j;
-    u
+    m[COUNT] = j as u32;
 }
 
-// The table with a row, in the place of the one with its key; no room where all rows are taken by other keys.
-pub fn put(t: PendingDns, row: Question) -> Offer
-    ensures { λ r. ⌜ Offered (cap pendingDNS) (insert (keyOf pendingDNS) (cmp pendingDNS) row (take (t .count) (t .rows))) (take (r .table .count) (r .table .rows)) (r .done) ⌝ }
+// A row goes in, in the place of the one with its key; whether there was room. Where there was none, nothing changes. What stood behind the count of its header is not written.
+pub fn put(m: &mut Memory, row: Question) -> bool
+    ensures { λ r. ⌜ Put questionsIn (keyOf pendingDNS) (cmp pendingDNS) (tidied row) (now (m .entry)) (now (m .exit)) r ⌝ }
 {
-    let s = seek(t, row);
+    memory::whole(m);
+    let number = row.number;
+    let s = seek(m, number);
     let at = s.place;
     let n = s.used;
     if s.hit {
-        let mut u = t;
-        u.rows[at] = row;
-        return Offer {
-            table: u,
-            done: true,
-        };
+        write(m, at, row);
+        return true;
     }
     if n < PENDING_DNS {
-        let mut u = insert_at(t, at, row);
-        u.count = n + 1;
-        return Offer {
-            table: u,
-            done: true,
-        };
+        memory::shift(m, FIRST + at * WIDTH, FIRST + n * WIDTH, WIDTH);
+        write(m, at, row);
+        m[COUNT] = (n + 1) as u32;
+        return true;
     }
-    Offer {
-        table: t,
-        done: false,
-    }
+    false
+}
+
+// No row is left.
+pub fn clear(m: &mut Memory)
+    ensures { λ r. ⌜ Cleared questionsIn (now (m .entry)) (now (m .exit)) ⌝ }
+{
+    memory::whole(m);
+    m[COUNT] = 0;
 }
 
 // Whether no row speaks of a label.
-pub fn clean(t: PendingDns, l: Label) -> bool
-    ensures { λ r. ⌜ r ≡ clean pendingDNS (labelOf l) (take (t .count) (t .rows)) ⌝ }
+pub fn clean(m: &Memory, l: Label) -> bool
+    ensures { λ r. ⌜ r ≡ clean pendingDNS (labelOf l) (table questionsIn (now (m .entry))) ⌝ }
 {
-    sorted::not(first(t, Which::Mentions(l)).found)
+    sorted::not(first(m, Which::Mentions(l)).found)
 }

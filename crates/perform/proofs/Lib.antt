@@ -1,2 +1,2 @@
--- A step by its event.
-pub mod Ways
+-- A step by its event, and the end of it.
+pub mod Ends

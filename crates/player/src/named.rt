@@ -1,8 +1,9 @@
 // The runs of the files that are named, one after the other. The first word is the program's own name.
-use feeding::play_all;
 use libc::STDOUT_FILENO;
+use memory::Memory;
+use playing::play_all;
 
-fn play_file(name: &[u8]) {
+fn play_file(name: &[u8], m: &mut Memory) {
     io::write_all(STDOUT_FILENO, name);
     let input = os::open_read(name);
     if input < 0 {
@@ -10,21 +11,21 @@ fn play_file(name: &[u8]) {
         return;
     }
     io::write_all(STDOUT_FILENO, b"\n");
-    play_all(input, true);
+    play_all(input, m, true);
     libc::close(input);
 }
 
 // No path has more than 4,096 bytes, and a longer word is handed out as none at all.
-fn play_word(i: usize) {
+fn play_word(i: usize, m: &mut Memory) {
     let mut name = [0u8; 4096];
     let n = os::arg(i, &mut name);
-    play_file(&name[..n]);
+    play_file(&name[..n], m);
 }
 
-pub fn play_each(words: usize) {
+pub fn play_each(words: usize, m: &mut Memory) {
     let mut i = 1;
     while i < words {
-        play_word(i);
+        play_word(i, m);
         i += 1;
     }
 }

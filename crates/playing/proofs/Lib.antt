@@ -1,4 +1,4 @@
--- The laws of lines, of first items, of runs and of the loop that plays a portion.
+-- The laws of lines, of first items, of runs, of the loop that plays a portion, and of moving bytes to the front.
 pub mod Adding
 pub mod Answering
 pub mod Firsts
@@ -6,3 +6,4 @@ pub mod Nexts
 pub mod Running
 pub mod Loop
 pub mod Meaning
+pub mod Moving

@@ -8,16 +8,14 @@ use Prim.Native.Nat.{ℕ, zero, suc, _+_, _-_, _≤_, _<_}
 use native.Mathlib.Omega.{arith}
 use lib.ListN.{length, take, drop, length-take, length-drop}
 use lib.Seq.{take-all, drop-drop}
-use Rattle.types.specs.declared.browser.Browser.{Browser as State}
 use Rattle.csexp.specs.Limits.{itemBytes, itemLevels}
 use Rattle.shapes.specs.Texts.{itemIn}
 use Rattle.sorted.proofs.Never.{never}
 use Rattle.wim.specs.Step.{Browser}
 use Rattle.wim.specs.Run.{performed, lineOf, after}
-use Rattle.wim.specs.View.{view}
+use Rattle.browser.specs.View.{browser}
 use Rattle.playing.specs.declared.looking.Halt.{Halt}
 use Rattle.playing.specs.declared.looking.Halt.the-variants.{Stopped}
-use Rattle.playing.specs.declared.items.Turn.{Turn}
 use Rattle.playing.specs.declared.looking.Next.{Next}
 use Rattle.playing.specs.declared.looking.Next.the-variants.{Item, Nothing}
 use Rattle.playing.specs.Lines.{lastLine, Adds, lineBytes}
@@ -147,12 +145,12 @@ module _ {text : List ℕ} {last : Bool} {b : Browser} {out : List ℕ} {c : Bro
           }
 
   -- the code plays the part of the text from `read` to behind the item
-  pub goes-on : {n : ℕ} {t : Turn} {out₂ : List ℕ} → looked text last out₁ read written ≡ Item n
-      → Turns (performed (itemIn (take ((read + n) - read) (drop read text))) c) c out₁ written out₂ t → length out₂ ≡ length out₁
-      → Playing text last b out (view (t .browser)) (read + n) (t .written) out₂
+  pub goes-on : {n p : ℕ} {d : Browser} {out₂ : List ℕ} → looked text last out₁ read written ≡ Item n
+      → Turns (performed (itemIn (take ((read + n) - read) (drop read text))) c) c out₁ written out₂ d p → length out₂ ≡ length out₁
+      → Playing text last b out d (read + n) p out₂
   unfolding left
-  goes-on {n} {t} {out₂} e u kept =
-      let v : Turns (performed (itemIn (take n left)) c) c out₁ written out₂ t = subst (λ (m : ℕ). Turns (performed (itemIn (take m (drop read text))) c) c out₁ written out₂ t) (let same : (read + n) - read ≡ n = omega arith in same) u in
+  goes-on {n} {p} {d} {out₂} e u kept =
+      let v : Turns (performed (itemIn (take n left)) c) c out₁ written out₂ d p = subst (λ (m : ℕ). Turns (performed (itemIn (take m (drop read text))) c) c out₁ written out₂ d p) (let same : (read + n) - read ≡ n = omega arith in same) u in
       turned-on e (v .stands) (v .adds) kept
 
   -- no item any more: the lines of the portion stand in the buffer
@@ -168,16 +166,16 @@ module _ {text : List ℕ} {last : Bool} {b : Browser} {out : List ℕ} {c : Bro
           ap₂ (λ (i : ℕ) (x : List ℕ). record { read = i; lines = x; browser = c; halt = h }) (let same : read ≡ read + 0 = omega arith in same) (u .before)
           ∙ sym (q ∙ ap (joined read (take written out₁)) (portion-step k left last room c ∙ ap (playedOn k left last room c) (ahead e)))
 
-pub ends : {text : List ℕ} {last : Bool} {b st : State} {out : List ℕ} {read written p : ℕ} {out₁ out₂ : List ℕ} {h : Halt} → Playing text last (view b) out (view st) read written out₁
+pub ends : {text : List ℕ} {last : Bool} (m k : List ℕ) {out : List ℕ} {read written p : ℕ} {out₁ out₂ : List ℕ} {h : Halt} → Playing text last (browser m) out (browser k) read written out₁
     → looked text last out₁ read written ≡ Nothing h → Adds (lastLine h) out₁ written out₂ p
-    → Plays text last b out (record { browser = st; read = read; written = p; halt = h }) out₂
+    → Plays text last m out (record { read = read; written = p; halt = h }) k out₂
 unfolding portionOf
-ends {text} {last} {b} {st} {out} {read} {written} {p} {out₁} {out₂} {h} played e u =
+ends {text} {last} m k {out} {read} {written} {p} {out₁} {out₂} {h} played e u =
     let all = adds-then (played .adds) u in
     let says = all-lines played e u in
     record {
       tells = says;
       counted = all .place ∙ (let same : 0 + length (take written out₁ ++ lastLine h) ≡ length (take written out₁ ++ lastLine h) = omega arith in same) ∙ ap length (sym (all .before));
       behind = all .behind;
-      run = λ more f. portion-run (suc (length text)) text more last (length out) (view b) (omega arith) f ∙ ap (shown text more) (sym says);
+      run = λ more f. portion-run (suc (length text)) text more last (length out) (browser m) (omega arith) f ∙ ap (shown text more) (sym says);
     }

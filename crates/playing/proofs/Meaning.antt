@@ -11,12 +11,11 @@ use borrow.Author.Tests.{leb-false}
 use lib.Dec.{leb}
 use lib.ListN.{length, take, drop, take-append-drop, length-append, length-take, length-drop}
 use Rattle.csexp.specs.Limits.{itemBytes, itemLevels}
-use Rattle.types.specs.declared.browser.Browser.{Browser as State}
 use Rattle.shapes.specs.Texts.{itemIn}
 use Rattle.sorted.proofs.Never.{never}
 use Rattle.wim.specs.Step.{Browser, Result}
 use Rattle.wim.specs.Run.{performed, lineOf, after, play}
-use Rattle.wim.specs.View.{view}
+use Rattle.browser.specs.View.{browser}
 use Rattle.playing.specs.declared.looking.Halt.{Halt}
 use Rattle.playing.specs.declared.looking.Halt.the-variants.{Over, Stopped, Hungry, Crowded}
 use Rattle.playing.specs.declared.looking.Next.{Next}
@@ -29,10 +28,10 @@ use Rattle.playing.proofs.Firsts.{first-term}
 use Rattle.playing.proofs.Nexts.{Lacks, full, broken, next-item, next-none}
 use Rattle.playing.proofs.Running.{playedOn, portion-step}
 
-pub one-result : {text : List ℕ} {last : Bool} {b c : State} {out : List ℕ} {r s : Played} {out₁ out₂ : List ℕ} → view b ≡ view c → Plays text last b out r out₁ → Plays text last c out s out₂
-    → (r .read ≡ s .read) × (r .written ≡ s .written) × (view (r .browser) ≡ view (s .browser)) × (r .halt ≡ s .halt) × (out₁ ≡ out₂)
-one-result {text} {last} {b} {c} {out} {r} {s} {out₁} {out₂} e u v =
-    let same : saying r out₁ ≡ saying s out₂ = u .tells ∙ ap (portionOf text last (length out)) e ∙ sym (v .tells) in
+pub one-result : {text : List ℕ} {last : Bool} {m n out : List ℕ} {r s : Played} {k l out₁ out₂ : List ℕ} → browser m ≡ browser n → Plays text last m out r k out₁ → Plays text last n out s l out₂
+    → (r .read ≡ s .read) × (r .written ≡ s .written) × (browser k ≡ browser l) × (r .halt ≡ s .halt) × (out₁ ≡ out₂)
+one-result {text} {last} {m} {n} {out} {r} {s} {k} {l} {out₁} {out₂} e u v =
+    let same : saying r k out₁ ≡ saying s l out₂ = u .tells ∙ ap (portionOf text last (length out)) e ∙ sym (v .tells) in
     let lines : take (r .written) out₁ ≡ take (s .written) out₂ = ap (λ (p : Portion). p .lines) same in
     let count : r .written ≡ s .written = u .counted ∙ ap length lines ∙ sym (v .counted) in (
       ap (λ (p : Portion). p .read) same,
@@ -45,18 +44,18 @@ one-result {text} {last} {b} {c} {out} {r} {s} {out₁} {out₂} e u v =
     )
 
 -- nothing follows, and the run ended
-module _ {text : List ℕ} {b : State} {out : List ℕ} {r : Played} {out₂ : List ℕ} (u : Plays text true b out r out₂) where
-  all-of-it : play text (view b) ≡ take (r .written) out₂ ++ goingOn (r .halt) (drop (r .read) text ++ []) (view (r .browser))
-  all-of-it = ap (λ (s : List ℕ). play s (view b)) (sym (append-nil text)) ∙ u .run [] (λ _. refl)
+module _ {text m out : List ℕ} {r : Played} {k out₂ : List ℕ} (u : Plays text true m out r k out₂) where
+  all-of-it : play text (browser m) ≡ take (r .written) out₂ ++ goingOn (r .halt) (drop (r .read) text ++ []) (browser k)
+  all-of-it = ap (λ (s : List ℕ). play s (browser m)) (sym (append-nil text)) ∙ u .run [] (λ _. refl)
 
-  pub over-is-run : r .halt ≡ Over → play text (view b) ≡ take (r .written) out₂
-  over-is-run e = all-of-it ∙ ap (λ (h : Halt). take (r .written) out₂ ++ goingOn h (drop (r .read) text ++ []) (view (r .browser))) e ∙ append-nil (take (r .written) out₂)
+  pub over-is-run : r .halt ≡ Over → play text (browser m) ≡ take (r .written) out₂
+  over-is-run e = all-of-it ∙ ap (λ (h : Halt). take (r .written) out₂ ++ goingOn h (drop (r .read) text ++ []) (browser k)) e ∙ append-nil (take (r .written) out₂)
 
-  pub stopped-is-run : r .halt ≡ Stopped → play text (view b) ≡ take (r .written) out₂
-  stopped-is-run e = all-of-it ∙ ap (λ (h : Halt). take (r .written) out₂ ++ goingOn h (drop (r .read) text ++ []) (view (r .browser))) e ∙ append-nil (take (r .written) out₂)
+  pub stopped-is-run : r .halt ≡ Stopped → play text (browser m) ≡ take (r .written) out₂
+  stopped-is-run e = all-of-it ∙ ap (λ (h : Halt). take (r .written) out₂ ++ goingOn h (drop (r .read) text ++ []) (browser k)) e ∙ append-nil (take (r .written) out₂)
 
-pub written-within : {text : List ℕ} {last : Bool} {b : State} {out : List ℕ} {r : Played} {out₂ : List ℕ} → Plays text last b out r out₂ → r .written ≤ length out₂
-written-within {text} {last} {b} {out} {r} {out₂} u = let c = u .counted in let l = length-take (r .written) out₂ in omega arith
+pub written-within : {text : List ℕ} {last : Bool} {m out : List ℕ} {r : Played} {k out₂ : List ℕ} → Plays text last m out r k out₂ → r .written ≤ length out₂
+written-within {text} {last} {m} {out} {r} {k} {out₂} u = let c = u .counted in let l = length-take (r .written) out₂ in omega arith
 
 -- WHY NO MORE WAS PLAYED.
 pub record Reasons (s : List ℕ) (last : Bool) (room : ℕ) (halt : Halt) (read written : ℕ) : Type 0 where
@@ -111,8 +110,8 @@ portion-reasons (suc k) s last room b h =
         one-more s last room n (lineOf r) (portionFrom k (drop n s) last (room - length (lineOf r)) (after b r)) inside (others n (room - length (lineOf r)) (after b r) (omega arith))
     go (Nothing h) e others = none-left s last room _ (next-none s last room e)
 
-pub reasons : {text : List ℕ} {last : Bool} {b : State} {out : List ℕ} {r : Played} {out₂ : List ℕ} → Plays text last b out r out₂ → Reasons text last (length out) (r .halt) (r .read) (r .written)
+pub reasons : {text : List ℕ} {last : Bool} {m out : List ℕ} {r : Played} {k out₂ : List ℕ} → Plays text last m out r k out₂ → Reasons text last (length out) (r .halt) (r .read) (r .written)
 unfolding portionOf
-reasons {text} {last} {b} {out} {r} {out₂} u =
+reasons {text} {last} {m} {out} {r} {k} {out₂} u =
     subst (λ (n : ℕ). Reasons text last (length out) (r .halt) (r .read) n) (sym (u .counted))
-    (subst (ReasonsOf text last (length out)) (sym (u .tells)) (portion-reasons (suc (length text)) text last (length out) (view b) (omega arith)))
+    (subst (ReasonsOf text last (length out)) (sym (u .tells)) (portion-reasons (suc (length text)) text last (length out) (browser m) (omega arith)))

@@ -1,23 +1,20 @@
 -- Lines, and how they are added to a buffer.
 use mathlib.Core.Path.{_≡_}
-use mathlib.Core.List.{List, [], _++_}
-use mathlib.Core.Option.{Option}
+use mathlib.Core.Bool.{cond}
+use mathlib.Core.List.{List, [], _∷_, _++_}
 use Prim.Native.Nat.{ℕ, _+_, _≤_}
+use lib.Dec.{eqb}
 use lib.ListN.{length, take, drop}
 use Rattle.csexp.specs.Term.{decimal}
 use Rattle.types.specs.declared.refusals.Refusal.the-variants.{BadText}
-use Rattle.types.specs.declared.refusals.Verdict.{Verdict}
-use Rattle.types.specs.declared.refusals.Verdict.the-variants.{Accepted, Refused}
-use Rattle.shapes.specs.Events.{Message}
 use Rattle.wim.specs.Step.{refusalNumber}
-use Rattle.wim.specs.Run.{eventLine, line}
+use Rattle.wim.specs.Run.{line}
 use Rattle.playing.specs.declared.looking.Halt.{Halt}
 use Rattle.playing.specs.declared.looking.Halt.the-variants.{Over, Stopped, Hungry, Crowded}
 
--- "the outgoing event, () for none, or the refusal number alone"
-abbrev pub answerText : Verdict → Option Message → List ℕ
-answerText Accepted m = eventLine m
-answerText (Refused why) m = decimal (refusalNumber why)
+-- where no event was written: "() for none, or the refusal number alone"; the numbers of refusals have one digit
+abbrev pub unwritten : ℕ → List ℕ
+unwritten n = cond (eqb n 0) (40 ∷ (41 ∷ [])) ((48 + n) ∷ [])
 
 -- the longest line: "An outgoing event has at most 4,096 bytes", and the line break
 abbrev pub lineBytes : ℕ
@@ -36,7 +33,8 @@ pub record Adds (l s : List ℕ) (at : ℕ) (s₂ : List ℕ) (p : ℕ) : Type 0
   pub before : take p s₂ ≡ take at s ++ l
   pub behind : drop p s₂ ≡ drop p s
 
--- the same of an item's answer: "An outgoing event has at most 4,096 bytes"
-pub record Answered (l s : List ℕ) (at : ℕ) (s₂ : List ℕ) (p : ℕ) : Type 0 where
-  pub adds : Adds l s at s₂ p
-  pub short : length l ≤ 4096
+-- The answer of an item stands in s₂, p is the place behind it: behind the bytes of an event, which stand in s already, nothing is added.
+pub record Answered (count n : ℕ) (s : List ℕ) (at : ℕ) (s₂ : List ℕ) (p : ℕ) : Type 0 where
+  pub none : count ≡ 0 → Adds (unwritten n) s at s₂ p
+  pub some : (count ≡ 0 → ⊥) → (s₂ ≡ s) × (p ≡ at + count)
+  pub short : p ≤ at + 4096

@@ -4,10 +4,8 @@ use mathlib.Core.List.{List}
 use Prim.Native.Nat.{ℕ}
 use Rattle.wim.specs.Step.{Browser, Result}
 use Rattle.wim.specs.Run.{lineOf, after}
-use Rattle.wim.specs.View.{view}
-use Rattle.playing.specs.declared.items.Turn.{Turn}
 use Rattle.playing.specs.Lines.{Adds}
 
-pub record Turns (o : Result) (b : Browser) (s : List ℕ) (at : ℕ) (s₂ : List ℕ) (r : Turn) : Type 0 where
-  pub stands : view (r .browser) ≡ after b o
-  pub adds : Adds (lineOf o) s at s₂ (r .written)
+pub record Turns (o : Result) (b : Browser) (s : List ℕ) (at : ℕ) (s₂ : List ℕ) (c : Browser) (p : ℕ) : Type 0 where
+  pub stands : c ≡ after b o
+  pub adds : Adds (lineOf o) s at s₂ p

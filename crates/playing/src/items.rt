@@ -3,28 +3,22 @@ ghost use Prim.Native.Nat.{_+_, _≤_};
 ghost use lib.ListN.{length};
 ghost use Rattle.shapes.specs.Texts.{itemIn};
 ghost use Rattle.wim.specs.Run.{performed};
-ghost use Rattle.wim.specs.View.{view};
+ghost use Rattle.browser.specs.View.{browser};
 ghost use Rattle.playing.specs.Lines.{lineBytes};
 ghost use Rattle.playing.specs.Turns.{Turns};
-use crate::lines::put_line;
-use rehearsal::perform_text;
-use types::browser::Browser;
+use crate::lines::put_answer;
+use crate::lines::put_byte;
+use memory::Memory;
 
-// The browser behind the item, and the place behind its line.
-pub struct Turn {
-    pub browser: Browser,
-    pub written: usize,
-}
-
-pub fn play_item(text: &[u8], b: Browser, out: &mut [u8], at: usize) -> Turn
+// The event is written where its line begins. The place behind the line.
+pub fn play_item(text: &[u8], m: &mut Memory, out: &mut [u8], at: usize) -> usize
     requires { ⌜ at + lineBytes ≤ length (now out) ⌝ }
-    ensures { λ r. ⌜ Turns (performed (itemIn (now (text .entry))) (view b)) (view b) (now (out .entry)) at (now (out .exit)) r ⌝ }
+    ensures { λ r. ⌜ Turns (performed (itemIn (now (text .entry))) (browser (now (m .entry)))) (browser (now (m .entry))) (now (out .entry)) at (now (out .exit)) (browser (now (m .exit))) r ⌝ }
 {
-    let done = perform_text(text, b);
-    let verdict = done.verdict;
-    let sent = done.sent;
-    let request = done.request;
-    let written = put_line(out, at, verdict, sent, request);
-    let browser = done.browser;
-    Turn { browser, written }
+    let told = rehearsal::step(text, m, out, at);
+    let verdict = told.verdict;
+    let count = told.count;
+    let n = rehearsal::number(verdict);
+    let p = put_answer(out, at, count, n);
+    put_byte(out, p, b'\n')
 }

@@ -5,21 +5,19 @@ use crate::lines::put_last;
 use crate::looking::Halt;
 use crate::looking::Next;
 use crate::looking::next_in;
-use types::browser::Browser;
+use memory::Memory;
 
-// The browser behind the items that were played, how many bytes they have, how many bytes their lines have, and why no more were played.
+// How many bytes were played, how many bytes their lines have, and why no more were played.
 pub struct Played {
-    pub browser: Browser,
     pub read: usize,
     pub written: usize,
     pub halt: Halt,
 }
 
 // The lines stand at the front of the buffer. `last` says that nothing follows the text.
-pub fn play(text: &[u8], last: bool, b: Browser, out: &mut [u8]) -> Played
-    ensures { λ r. ⌜ Plays (now (text .entry)) last b (now (out .entry)) r (now (out .exit)) ⌝ }
+pub fn play(text: &[u8], last: bool, m: &mut Memory, out: &mut [u8]) -> Played
+    ensures { λ r. ⌜ Plays (now (text .entry)) last (now (m .entry)) (now (out .entry)) r (now (m .exit)) (now (out .exit)) ⌝ }
 {
-    let mut browser = b;
     let mut read = 0;
     let mut written = 0;
     loop {
@@ -27,15 +25,12 @@ pub fn play(text: &[u8], last: bool, b: Browser, out: &mut [u8]) -> Played
         match next {
             Next::Item(n) => {
                 let end = read + n;
-                let turn = play_item(&text[read..end], browser, out, written);
-                browser = turn.browser;
-                written = turn.written;
+                written = play_item(&text[read..end], m, out, written);
                 read = end;
             }
             Next::Nothing(halt) => {
                 let end = put_last(out, written, halt);
                 return Played {
-                    browser,
                     read,
                     written: end,
                     halt,

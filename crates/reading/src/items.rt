@@ -3,6 +3,7 @@ ghost use Rattle.csexp.specs.Answers.{Reads};
 ghost use Rattle.csexp.specs.Decode.{word, numeral};
 ghost use Rattle.csexp.specs.Text.{text};
 ghost use Rattle.shapes.specs.Items.{eventOf, messageOf, triggeredOf, toldOf, itemOf};
+use crate::choices::read_choices;
 use crate::fresh::read_fresh;
 use csexp::Count;
 use csexp::empty_list;
@@ -11,7 +12,6 @@ use csexp::number;
 use csexp::word;
 use reading_answers::HappeningAt;
 use reading_answers::read_message;
-use reading_choices::read_choices;
 use types::items::Item;
 
 // 1:1, the browser's own address

@@ -7,11 +7,11 @@ use csexp::mark;
 use csexp::number;
 use reading_parts::Short;
 use reading_parts::short_number;
-use statuses::StatusKind;
-use statuses::status_kind;
 use types::answers::Body;
 use types::commands::Script;
 use types::commands::ScriptState;
+use words::statuses::StatusKind;
+use words::statuses::status_kind;
 
 // A number that is a status.
 pub fn read_status(s: &[u8], at: usize) -> Short

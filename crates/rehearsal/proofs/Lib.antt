@@ -1,3 +1,5 @@
--- What a step on text is held to, on any texts, browsers and buffers.
-pub mod Replying
+-- What a step on text is held to, on any texts, memories and buffers.
+pub mod Told
+pub mod Ways
+pub mod Emptied
 pub mod One

@@ -1,31 +1,21 @@
 // Where every run begins (01 "The player's run": "an empty open browser").
-use types::browser::Browser;
+use memory::Memory;
 ghost use mathlib.Core.Path.{_≡_};
 ghost use Rattle.wim.specs.Step.{emptyBrowser};
-ghost use Rattle.wim.specs.View.{view};
+ghost use Rattle.browser.specs.View.{browser};
 
-pub fn empty() -> Browser
-    ensures { λ r. ⌜ view r ≡ emptyBrowser ⌝ }
+// Whatever the memory held.
+pub fn make_empty(m: &mut Memory)
+    ensures { λ r. ⌜ browser (now (m .exit)) ≡ emptyBrowser ⌝ }
 {
-    let windows = windows::empty();
-    let documents = documents::empty();
-    let cookies = cookies::empty();
-    let local_storage = local_storage::empty();
-    let session_storage = session_storage::empty();
-    let inputs = inputs::empty();
-    let pending_dns = pending_dns::empty();
-    let pending_requests = pending_requests::empty();
-    let sts = sts::empty();
-    Browser {
-        windows,
-        documents,
-        cookies,
-        local_storage,
-        session_storage,
-        inputs,
-        pending_dns,
-        pending_requests,
-        sts,
-        closed: false,
-    }
+    windows::clear(m);
+    documents::clear(m);
+    cookies::clear(m);
+    local_storage::clear(m);
+    session_storage::clear(m);
+    inputs::clear(m);
+    pending_dns::clear(m);
+    pending_requests::clear(m);
+    sts::clear(m);
+    browser::set_closed(m, false);
 }

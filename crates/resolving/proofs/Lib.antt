@@ -1,2 +1,4 @@
--- The ways through a DNS answer.
-pub mod Ways
+-- The ways through a DNS answer, and through CLOSECORRUPT.
+pub mod Tidy
+pub mod Questions
+pub mod Emptying

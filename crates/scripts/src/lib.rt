@@ -1,36 +1,38 @@
 // 000 Algorithm 7, RUNSCRIPT, called from A9:9 to 12.
-use scene::Scene;
-use shown_in::Shown;
+pub mod commands; // the commands that load nothing
+
+use history::Display;
+use memory::Memory;
+use stepping::Performed;
+use storing::scene::Scene;
 use types::Fresh;
 use types::WindowNumber;
-use types::browser::Browser;
 use types::commands::Command;
 use types::cookies::SetCookies;
 use types::items::Output;
-use types::refusals::Performed;
 use types::refusals::Refusal;
 use types::rows::Document;
 ghost use lib.ListN.{take};
 ghost use Rattle.wim.specs.Script.{command, runScript};
-ghost use Rattle.performing.specs.Performs.{Performs};
-ghost use Rattle.scene.specs.Stored.{first};
+ghost use Rattle.stepping.specs.Performs.{Performs};
+ghost use Rattle.storing.specs.Stored.{storing};
 ghost use Rattle.scripts.specs.Acting.{acting};
 
 // A7:18
-fn command(b: Browser, s: Scene, f: Fresh) -> Performed
-    ensures { λ r. ⌜ Performs (command (s .window) (s .document) (first s) (s .output .command)) b f r ⌝ }
+fn command(m: &mut Memory, s: Scene, f: Fresh) -> Performed
+    ensures { λ r. ⌜ Performs (command (s .window) (s .document) (storing s) (s .output .command)) f (now (m .entry)) (now (m .exit)) r ⌝ }
 {
     let out = s.output;
     let said = out.command;
     match said {
-        Command::Nothing => script_words::nothing(b, s, f),
-        Command::Href(url, to, noreferrer) => script_links::href(b, s, url, noreferrer, to, f),
-        Command::Iframe(url, holder) => script_frames::iframe(b, s, url, holder, f),
-        Command::Form(url, method, data, to) => script_links::form(b, s, url, method, data, to, f),
-        Command::SetScript(x, script) => script_words::set_script(b, s, x, script, f),
-        Command::SetScriptState(x, state) => script_words::set_script_state(b, s, x, state, f),
-        Command::XmlHttpRequest(url, method, data, matching) => script_xhr::xhr(
-            b,
+        Command::Nothing => commands::nothing(m, s, f),
+        Command::Href(url, to, noreferrer) => script_loads::href(m, s, url, noreferrer, to, f),
+        Command::Iframe(url, holder) => script_loads::iframe(m, s, url, holder, f),
+        Command::Form(url, method, data, to) => script_loads::form(m, s, url, method, data, to, f),
+        Command::SetScript(x, script) => commands::set_script(m, s, x, script, f),
+        Command::SetScriptState(x, state) => commands::set_script_state(m, s, x, state, f),
+        Command::XmlHttpRequest(url, method, data, matching) => script_loads::xhr(
+            m,
             s,
             url,
             method,
@@ -38,30 +40,36 @@ fn command(b: Browser, s: Scene, f: Fresh) -> Performed
             matching,
             f,
         ),
-        Command::Back(x) => script_moves::back(b, s, x, f),
-        Command::Forward(x) => script_moves::forward(b, s, x, f),
-        Command::Close(x) => script_moves::close(b, s, x, f),
-        Command::PostMessage(x, message, to) => posting::post_message(b, s, x, message, to, f),
+        Command::Back(x) => commands::back(m, s, x, f),
+        Command::Forward(x) => commands::forward(m, s, x, f),
+        Command::Close(x) => commands::close(m, s, x, f),
+        Command::PostMessage(x, message, to) => commands::post_message(
+            m,
+            s,
+            x,
+            message,
+            to,
+            f,
+        ),
     }
 }
 
 // A7:11 to 18, for the active document d of w under the top-level window.
 fn act(
-    b: Browser,
+    m: &mut Memory,
     w: WindowNumber,
     top: WindowNumber,
     d: Document,
     out: Output,
-    few: SetCookies,
+    new: SetCookies,
     f: Fresh,
 ) -> Performed
-    ensures { λ r. ⌜ Performs (acting w out (take (few .count) (few .rows)) top d) b f r ⌝ }
+    ensures { λ r. ⌜ Performs (acting w out (take (new .count) (new .rows)) top d) f (now (m .entry)) (now (m .exit)) r ⌝ }
 {
     let url = d.location;
     let h = url.host;
     let p = url.protocol;
-    let old = b.cookies;
-    let merged = merging::merge(old, h, few, p);
+    let merged = storing::merge(m, h, new, p);
     let s = Scene {
         window: w,
         document: d,
@@ -69,15 +77,21 @@ fn act(
         merged: merged,
         output: out,
     };
-    command(b, s, f)
+    command(m, s, f)
 }
 
-pub fn run_script(b: Browser, w: WindowNumber, out: Output, few: SetCookies, f: Fresh) -> Performed
-    ensures { λ r. ⌜ Performs (runScript w out (take (few .count) (few .rows))) b f r ⌝ }
+pub fn run_script(
+    m: &mut Memory,
+    w: WindowNumber,
+    out: Output,
+    new: SetCookies,
+    f: Fresh,
+) -> Performed
+    ensures { λ r. ⌜ Performs (runScript w out (take (new .count) (new .rows))) f (now (m .entry)) (now (m .exit)) r ⌝ }
 {
-    let s = shown_in::shown_in(b, w);
+    let s = history::displayed(m, w);
     match s {
-        Shown::Lacks(m) => draft::refuse(b, Refusal::Lacking(m)),
-        Shown::Shows(top, d) => act(b, w, top, d, out, few, f),
+        Display::Lacks(x) => stepping::refuse(Refusal::Lacking(x)),
+        Display::Shows(top, d) => act(m, w, top, d, out, new, f),
     }
 }

@@ -1,2 +1,3 @@
--- What HTTP_SEND makes of a draft.
+-- What HTTP_SEND and CANCELNAV make of a memory.
 pub mod Sends
+pub mod Cancels

@@ -1,6 +1,13 @@
 // 000 Algorithm 4, HTTP_SEND: an STS host turns the address to S first; then cookies are chosen; then headers; then the DNS question goes out.
+// And Algorithm 3, CANCELNAV.
+pub mod request_tests; // tests of methods and addresses
+
+use memory::Memory;
+use stepping::Performed;
+use types::Cancelled;
 use types::DnsNumber;
 use types::Fragment;
+use types::Fresh;
 use types::Parameters;
 use types::Path;
 use types::Policy;
@@ -11,15 +18,16 @@ use types::RequestNumber;
 use types::Sending;
 use types::Sent;
 use types::Url;
-use types::browser::Browser;
-use types::browser::Draft;
 use types::cookies::Jar;
-use types::refusals::Performed;
 use types::rows::Question;
 ghost use mathlib.Core.Path.{_≡_};
-ghost use mathlib.Core.Bool.{cond};
+ghost use mathlib.Core.Bool.{true, cond};
+ghost use mathlib.Core.List.{[], _∷_};
+ghost use Rattle.tables.specs.Tables.{pendingDNS, pendingRequests};
 ghost use Rattle.wim.specs.Sending.{secured, unfragmented, strippedToOrigin, referer, requestOf, questionOf};
-ghost use Rattle.sending.specs.Sends.{Sends};
+ghost use Rattle.stepping.specs.Holds.{Carries};
+ghost use Rattle.sending.specs.Sends.{sent, Sends};
+ghost use Rattle.sending.specs.Cancels.{cancelled};
 
 // A4:2, 3
 fn secured_if(sts: bool, u: Url) -> Url
@@ -128,21 +136,43 @@ fn question_of(o: Sending, u: Url, jar: Jar, q: RequestNumber, n: DnsNumber) -> 
     }
 }
 
-// The browser b stands before the step, and d is what the step has made of it so far.
-pub fn send(b: Browser, d: Draft, o: Sending, q: RequestNumber, n: DnsNumber) -> Performed
-    ensures { λ r. ⌜ Sends b d o (q .0) (n .0) r ⌝ }
+// A4:2 to 15. Whether there was room for the question; where there was none, nothing changes.
+pub fn send(m: &mut Memory, o: Sending, q: RequestNumber, n: DnsNumber) -> bool
+    ensures { λ r. ⌜ Carries (sent o (q .0) (n .0)) (pendingDNS ∷ []) [] (now (m .entry)) (now (m .exit)) r ⌝ }
 {
-    let c = d.browser;
     let url = o.url;
     let h = url.host;
-    let ss = c.sts;
-    let strict = sts::first(ss, sts::Which::KeyIs(h)).found;
+    let strict = sts::strict(m, h);
     let u = secured_if(strict, url);
     let over = u.protocol;
-    let cs = c.cookies;
-    let jar = cookies::sent_to(cs, h, over);
+    let jar = cookies::sent_to(m, h, over);
     let row = question_of(o, u, jar, q, n);
-    let e = putting::put_question(d, row);
+    pending_dns::put(m, row)
+}
+
+// HTTP_SEND ends a step; `room` says whether there was room for what the step put before.
+pub fn http_send(m: &mut Memory, room: bool, o: Sending, f: Fresh) -> Performed
+    ensures { λ r. ⌜ Sends room o f (now (m .entry)) (now (m .exit)) r ⌝ }
+{
+    let url = o.url;
+    let h = url.host;
+    let q = f.request;
+    let n = f.dns;
+    let put = send(m, o, q, n);
+    let all = sorted::both(room, put);
     let none = labels::no_request();
-    draft::conclude(b, e, false, Sent::Resolve(h, n), none)
+    stepping::conclude(all, Sent::Resolve(h, n), none)
+}
+
+// CANCELNAV: a window's number without its label equals no reference.
+pub fn cancel(m: &mut Memory, what: Cancelled)
+    ensures { λ r. ⌜ Carries (cancelled what) [] (pendingRequests ∷ pendingDNS ∷ []) (now (m .entry)) (now (m .exit)) true ⌝ }
+{
+    match what {
+        Cancelled::Bare(_) => {}
+        Cancelled::Labelled(s) => {
+            pending_requests::keep(m, pending_requests::Which::NotFor(s));
+            pending_dns::keep(m, pending_dns::Which::NotFor(s));
+        }
+    }
 }

@@ -6,7 +6,7 @@ use Prim.Native.Nat.{ℕ}
 use lib.ListN.{take}
 use Rattle.csexp.specs.Text.{text}
 use Rattle.csexp.specs.Term.{Term, atom, list, Terms, nil, cons, write}
-use Rattle.csexp_write.specs.Encode.{numberTerm, optionalTerm, each, labelled, joins}
+use Rattle.csexp.specs.Encode.{numberTerm, optionalTerm, each, labelled, joins}
 use Rattle.shapes.specs.Nouns.{Host, Address, DnsNumber, KeyNumber, Protocol, Plain, Secure, Fragment, Absent, Named, Url, Origin, CookieName, Pair, Jar, Method, OriginHeader, Unsent, Null, From, Referrer, Unknown, Known, Request, Sent, Silence, Resolve, Open, Sealed}
 use Rattle.shapes.specs.Words.{spelling}
 

@@ -6,6 +6,7 @@ mod telling; // the line
 
 use libc::STDIN_FILENO;
 use libc::STDOUT_FILENO;
+use memory::TOTAL;
 use types::WindowNumber;
 
 fn main() {
@@ -14,6 +15,7 @@ fn main() {
         io::write_all(STDOUT_FILENO, b"2\n");
         return;
     }
-    let b = feeding::play_all(STDIN_FILENO, false);
-    telling::tell(b, WindowNumber(w));
+    let mut m = [0u32; TOTAL];
+    playing::play_all(STDIN_FILENO, &mut m, false);
+    telling::tell(&m, WindowNumber(w));
 }

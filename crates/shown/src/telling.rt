@@ -1,14 +1,14 @@
 // The line: what is shown, or why nothing is.
+use exhibit::show;
 use libc::STDOUT_FILENO;
+use memory::Memory;
 use rehearsal::number;
-use showing::show;
 use types::WindowNumber;
-use types::browser::Browser;
 
 // 65,536 bytes hold what is shown of every browser that a run has made: each of at most 32 windows stands in the tree once.
-pub fn tell(b: Browser, w: WindowNumber) {
+pub fn tell(m: &Memory, w: WindowNumber) {
     let mut text = io::large_buffer();
-    let shown = show(b, w, &mut text, 0);
+    let shown = show(m, w, &mut text, 0);
     let count = shown.count;
     let verdict = shown.verdict;
     let refused = number(verdict);

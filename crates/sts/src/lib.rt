@@ -1,22 +1,27 @@
-// The hosts that are spoken to over S alone. Written by tools/tables.py.
+// The hosts that are spoken to over S alone, in lent memory. Written by tools/tables.py.
+mod rows; // a row read from its numbers and written as them
+mod tests; // which rows are meant
+
+use memory::Memory;
+use rows::COUNT;
+use rows::FIRST;
+pub use rows::STS;
+use rows::WIDTH;
+use rows::blank;
+pub use rows::row;
+pub use rows::size;
+use rows::write;
+pub use tests::Which;
+use tests::stands;
+use tests::test;
 use types::Host;
-use types::browser::STS;
-use types::browser::Sts;
 use types::rows::StrictHost;
 ghost use mathlib.Core.Path.{_≡_};
-ghost use mathlib.Core.Bool.{not};
-ghost use mathlib.Core.List.{[]};
-ghost use lib.ListN.{take};
-ghost use Rattle.sorted.specs.Order.{same};
-ghost use Rattle.sorted.specs.Table.{find, keep, insert, stand, looked, opened, Sought, Offered};
-ghost use Rattle.tables.specs.Tables.{sts, keyOf, cmp, cap};
-ghost use Rattle.sts.specs.Which.{passes};
-
-// Which rows are meant.
-pub enum Which {
-    KeyIs(Host),
-    KeyIsNot(Host),
-}
+ghost use Rattle.sorted.specs.Table.{isSome, find, looked, at};
+ghost use Rattle.memory.specs.Rows.{table, Found as Placed, Kept, Put, Cleared};
+ghost use Rattle.tables.specs.Tables.{sts, keyOf, cmp};
+ghost use Rattle.sts.specs.Which.{passes, keyStands};
+ghost use Rattle.layouts.specs.Tables.{stsIn};
 
 // A row, if one was found. Where none was, `row` says nothing.
 pub struct Found {
@@ -24,70 +29,14 @@ pub struct Found {
     pub row: StrictHost,
 }
 
-// The table with what was put in, if there was room. Where there was none, `table` says nothing.
-pub struct Offer {
-    pub table: Sts,
-    pub done: bool,
-}
-
-// A row of which nothing is said.
-fn blank() -> StrictHost {
-    StrictHost { host: Host(0) }
-}
-
-pub fn empty() -> Sts
-    ensures { λ r. ⌜ take (r .count) (r .rows) ≡ [] ⌝ }
+// The place of the first row that does not stand before a key, whether it has that key, and how many rows count.
+fn seek(m: &Memory, host: Host) -> sorted::At
+    ensures { λ a. ⌜ Placed stsIn (keyStands host) (now (m .entry)) (a .place) (a .hit) (a .used) ⌝ }
 {
-    let row = blank();
-    Sts {
-        rows: [row; STS],
-        count: 0,
-    }
-}
-
-// How a key stands to a row's.
-fn stands(host: Host, row: StrictHost) -> sorted::Order
-    ensures { λ r. ⌜ r ≡ cmp sts (host .0) (keyOf sts row) ⌝ }
-{
-    sorted::compare(host.0 as u64, row.host.0 as u64)
-}
-
-fn order(row: StrictHost, other: StrictHost) -> sorted::Order
-    ensures { λ r. ⌜ r ≡ cmp sts (keyOf sts row) (keyOf sts other) ⌝ }
-{
-    let host = row.host;
-    stands(host, other)
-}
-
-fn key_is(row: StrictHost, host: Host) -> bool
-    ensures { λ r. ⌜ r ≡ same (cmp sts (host .0) (keyOf sts row)) ⌝ }
-{
-    sorted::same(stands(host, row))
-}
-
-fn key_is_not(row: StrictHost, host: Host) -> bool
-    ensures { λ r. ⌜ r ≡ not (same (cmp sts (host .0) (keyOf sts row))) ⌝ }
-{
-    sorted::not(key_is(row, host))
-}
-
-fn test(row: StrictHost, q: Which) -> bool
-    ensures { λ r. ⌜ r ≡ passes q row ⌝ }
-{
-    match q {
-        Which::KeyIs(host) => key_is(row, host),
-        Which::KeyIsNot(host) => key_is_not(row, host),
-    }
-}
-
-// The place of the first row that does not stand before r, whether it has r's key, and how many rows count.
-fn seek(t: Sts, r: StrictHost) -> sorted::At
-    ensures { λ a. ⌜ Sought (stand (keyOf sts) (cmp sts) r) (t .count) (cap sts) (t .rows) (a .place) (a .hit) (a .used) ⌝ }
-{
-    let n = sorted::used(t.count, STS);
+    let n = size(m);
     let mut i: usize = 0;
     while i < n {
-        let o = order(r, t.rows[i]);
+        let o = stands(host, row(m, i));
         if sorted::after(o) {
             i += 1;
         } else {
@@ -105,92 +54,88 @@ fn seek(t: Sts, r: StrictHost) -> sorted::At
     }
 }
 
-// `row` at p, and the rows from p on moved up by one.
-fn insert_at(t: Sts, p: usize, row: StrictHost) -> Sts
-    ensures { λ r. ⌜ r .rows ≡ take (cap sts) (opened p row (t .rows)) ⌝ }
-{
-    let mut u = t;
-    let mut hold = row;
-    let mut i = p;
-    while i < STS {
-        let next = u.rows[i];
-        u.rows[i] = hold;
-        hold = next;
-        i += 1;
-    }
-    u
-}
-
 // The first row that passes a test.
-pub fn first(t: Sts, q: Which) -> Found
-    ensures { λ r. ⌜ looked (r .found) (r .row) ≡ find (passes q) (take (t .count) (t .rows)) ⌝ }
+pub fn first(m: &Memory, q: Which) -> Found
+    ensures { λ r. ⌜ looked (r .found) (r .row) ≡ find (passes q) (table stsIn (now (m .entry))) ⌝ }
 {
-    let n = sorted::used(t.count, STS);
+    let n = size(m);
     let mut i: usize = 0;
     while i < n {
-        let row = t.rows[i];
-        if test(row, q) {
+        let found = row(m, i);
+        if test(found, q) {
             return Found {
                 found: true,
-                row: row,
+                row: found,
             };
         }
         i += 1;
     }
-    let row = t.rows[0];
+    let none = blank();
     Found {
         found: false,
-        row: row,
+        row: none,
     }
 }
 
-// The rows that pass a test.
-pub fn keep(t: Sts, q: Which) -> Sts
-    ensures { λ r. ⌜ take (r .count) (r .rows) ≡ keep (passes q) (take (t .count) (t .rows)) ⌝ }
+// Only rows that pass a test stay. None is copied onto itself.
+pub fn keep(m: &mut Memory, q: Which)
+    ensures { λ r. ⌜ Kept stsIn (passes q) (now (m .entry)) (now (m .exit)) ⌝ }
 {
-    let n = sorted::used(t.count, STS);
-    let mut u = t;
+    memory::whole(m);
+    let n = size(m);
     let mut j: usize = 0;
     let mut i: usize = 0;
     while i < n {
-        let row = u.rows[i];
-        if test(row, q) {
-            u.rows[j] = row;
-            j += 1;
-            i += 1;
+        let seen = row(m, i);
+        if test(seen, q) {
+            if j < i {
+                memory::carry(m, FIRST + i * WIDTH, FIRST + j * WIDTH, WIDTH);
+                j += 1;
+                i += 1;
+            } else {
+                j += 1;
+                i += 1;
+            }
         } else {
             i += 1;
         }
     }
-    u.count = j;
-    u
+    m[COUNT] = j as u32;
 }
 
-// The table with a row, in the place of the one with its key; no room where all rows are taken by other keys.
-pub fn put(t: Sts, row: StrictHost) -> Offer
-    ensures { λ r. ⌜ Offered (cap sts) (insert (keyOf sts) (cmp sts) row (take (t .count) (t .rows))) (take (r .table .count) (r .table .rows)) (r .done) ⌝ }
+// A row goes in, in the place of the one with its key; whether there was room. Where there was none, nothing changes.
+pub fn put(m: &mut Memory, row: StrictHost) -> bool
+    ensures { λ r. ⌜ Put stsIn (keyOf sts) (cmp sts) row (now (m .entry)) (now (m .exit)) r ⌝ }
 {
-    let s = seek(t, row);
+    memory::whole(m);
+    let host = row.host;
+    let s = seek(m, host);
     let at = s.place;
     let n = s.used;
     if s.hit {
-        let mut u = t;
-        u.rows[at] = row;
-        return Offer {
-            table: u,
-            done: true,
-        };
+        write(m, at, row);
+        return true;
     }
     if n < STS {
-        let mut u = insert_at(t, at, row);
-        u.count = n + 1;
-        return Offer {
-            table: u,
-            done: true,
-        };
+        memory::shift(m, FIRST + at * WIDTH, FIRST + n * WIDTH, WIDTH);
+        write(m, at, row);
+        m[COUNT] = (n + 1) as u32;
+        return true;
     }
-    Offer {
-        table: t,
-        done: false,
-    }
+    false
+}
+
+// No row is left.
+pub fn clear(m: &mut Memory)
+    ensures { λ r. ⌜ Cleared stsIn (now (m .entry)) (now (m .exit)) ⌝ }
+{
+    memory::whole(m);
+    m[COUNT] = 0;
+}
+
+// Whether a host is spoken to over S alone.
+pub fn strict(m: &Memory, h: Host) -> bool
+    ensures { λ r. ⌜ r ≡ isSome (at (keyOf sts) (cmp sts) (h .0) (table stsIn (now (m .entry)))) ⌝ }
+{
+    first(m, Which::KeyIs(h)).found
 }

@@ -1,2 +1,4 @@
--- The ways through forward and back.
-pub mod Ways
+-- The ways through the triggers.
+pub mod Addresses
+pub mod Again
+pub mod Moves

@@ -5,7 +5,6 @@ pub mod commands; // what a script asks for
 pub mod answers; // what comes back
 pub mod items; // an event with what was chosen for it
 pub mod rows; // of the nine tables
-pub mod browser; // the tables
 pub mod refusals; // what a step comes to
 
 use cookies::Jar;

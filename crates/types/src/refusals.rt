@@ -1,7 +1,4 @@
 // Why a step is refused (01 "Refusal numbers").
-use super::Request;
-use super::Sent;
-use super::browser::Browser;
 
 // Which thing isn't there; all are refusal 3.
 pub enum Missing {
@@ -26,12 +23,4 @@ pub enum Refusal {
 pub enum Verdict {
     Accepted,
     Refused(Refusal),
-}
-
-// What a step gives: the browser as it stands then, and what goes out, with its request beside.
-pub struct Performed {
-    pub verdict: Verdict,
-    pub browser: Browser,
-    pub sent: Sent,
-    pub request: Request,
 }

@@ -10,7 +10,6 @@ pub mod Script
 pub mod Response
 pub mod Main
 pub mod Step
-pub mod View
 pub mod Shown
 pub mod LocalSteps
 pub mod Invariant

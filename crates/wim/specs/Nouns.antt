@@ -81,20 +81,9 @@ pub use Rattle.types.specs.declared.rows.Input.{Input}
 pub use Rattle.types.specs.declared.rows.Question.{Question}
 pub use Rattle.types.specs.declared.rows.Waiting.{Waiting}
 pub use Rattle.types.specs.declared.rows.StrictHost.{StrictHost}
-pub use Rattle.types.specs.declared.browser.Windows.{Windows}
-pub use Rattle.types.specs.declared.browser.Documents.{Documents}
-pub use Rattle.types.specs.declared.browser.Cookies.{Cookies}
-pub use Rattle.types.specs.declared.browser.LocalStorage.{LocalStorage}
-pub use Rattle.types.specs.declared.browser.SessionStorage.{SessionStorage}
-pub use Rattle.types.specs.declared.browser.Inputs.{Inputs}
-pub use Rattle.types.specs.declared.browser.PendingDns.{PendingDns}
-pub use Rattle.types.specs.declared.browser.PendingRequests.{PendingRequests}
-pub use Rattle.types.specs.declared.browser.Sts.{Sts}
-pub use Rattle.types.specs.declared.browser.Browser.{Browser as State}
 pub use Rattle.types.specs.declared.refusals.Missing.{Missing}
 pub use Rattle.types.specs.declared.refusals.Missing.the-variants.{NoWindow, NoDocument, NoQuestion, NoRequest, Mismatch}
 pub use Rattle.types.specs.declared.refusals.Refusal.{Refusal}
 pub use Rattle.types.specs.declared.refusals.Refusal.the-variants.{BadText, BadShape, Lacking, Stopped, NotFresh, Full, NoRoom, Closed}
 pub use Rattle.types.specs.declared.refusals.Verdict.{Verdict}
 pub use Rattle.types.specs.declared.refusals.Verdict.the-variants.{Accepted, Refused}
-pub use Rattle.types.specs.declared.refusals.Performed.{Performed}

@@ -5,7 +5,7 @@ use mathlib.Core.Option.{Option, none, some}
 use Prim.Native.Nat.{ℕ, zero, suc}
 use Rattle.csexp.specs.Text.{text}
 use Rattle.csexp.specs.Term.{Term, atom, list, Terms, nil, cons}
-use Rattle.csexp_write.specs.Encode.{numberTerm, optionalTerm, each, labelled}
+use Rattle.csexp.specs.Encode.{numberTerm, optionalTerm, each, labelled}
 use Rattle.sorted.specs.Table.{keep, at}
 use Rattle.tables.specs.Tables.{windows, documents, cookies, localStorage, sessionStorage, inputs, isSecure, keyOf, cmp, Tables}
 use Rattle.tables.specs.Rows.{sameDocument, originOf, sameOrigin, sameHost, goesOver}

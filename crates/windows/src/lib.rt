@@ -1,29 +1,32 @@
-// The windows, by number. Written by tools/tables.py.
+// The windows, by number, in lent memory. Written by tools/tables.py.
+mod rows; // a row read from its numbers and written as them
+mod tests; // which rows are meant
+
+use memory::Memory;
+use rows::COUNT;
+use rows::FIRST;
+use rows::WIDTH;
+pub use rows::WINDOWS;
+use rows::blank;
+pub use rows::row;
+pub use rows::size;
+use rows::write;
+pub use tests::Which;
+use tests::spared;
+use tests::stands;
+use tests::test;
 use types::Label;
 use types::WindowNumber;
 use types::WindowNumbers;
-use types::browser::WINDOWS;
-use types::browser::Windows;
-use types::rows::Opener;
-use types::rows::Parent;
 use types::rows::Window;
 ghost use mathlib.Core.Path.{_≡_};
-ghost use mathlib.Core.Bool.{not};
-ghost use mathlib.Core.List.{[]};
-ghost use lib.ListN.{take, length};
-ghost use Rattle.sorted.specs.Order.{same};
-ghost use Rattle.sorted.specs.Table.{find, keep, insert, stand, looked, opened, Sought, Offered};
-ghost use Rattle.tables.specs.Tables.{windows, keyOf, cmp, cap};
-ghost use Rattle.tables.specs.Labels.{among, mentions, clean};
+ghost use Rattle.sorted.specs.Table.{find, looked};
+ghost use Rattle.memory.specs.Rows.{table, Found as Placed, Kept, Put, Cleared};
+ghost use Rattle.tables.specs.Tables.{windows, keyOf, cmp};
+ghost use Rattle.tables.specs.Labels.{clean};
 ghost use Rattle.tables.specs.View.{labelOf};
-ghost use Rattle.windows.specs.Which.{passes, spares};
-
-// Which rows are meant.
-pub enum Which {
-    KeyIs(WindowNumber),
-    KeyIsNot(WindowNumber),
-    Mentions(Label),
-}
+ghost use Rattle.windows.specs.Which.{passes, keyStands, spares};
+ghost use Rattle.layouts.specs.Tables.{windowsIn};
 
 // A row, if one was found. Where none was, `row` says nothing.
 pub struct Found {
@@ -31,95 +34,14 @@ pub struct Found {
     pub row: Window,
 }
 
-// The table with what was put in, if there was room. Where there was none, `table` says nothing.
-pub struct Offer {
-    pub table: Windows,
-    pub done: bool,
-}
-
-// A row of which nothing is said.
-fn blank() -> Window {
-    Window {
-        number: WindowNumber(0),
-        parent: Parent::Top,
-        opener: Opener::Nobody,
-    }
-}
-
-pub fn empty() -> Windows
-    ensures { λ r. ⌜ take (r .count) (r .rows) ≡ [] ⌝ }
+// The place of the first row that does not stand before a key, whether it has that key, and how many rows count.
+fn seek(m: &Memory, number: WindowNumber) -> sorted::At
+    ensures { λ a. ⌜ Placed windowsIn (keyStands number) (now (m .entry)) (a .place) (a .hit) (a .used) ⌝ }
 {
-    let row = blank();
-    Windows {
-        rows: [row; WINDOWS],
-        count: 0,
-    }
-}
-
-// How a key stands to a row's.
-fn stands(number: WindowNumber, row: Window) -> sorted::Order
-    ensures { λ r. ⌜ r ≡ cmp windows (number .0) (keyOf windows row) ⌝ }
-{
-    sorted::compare(number.0 as u64, row.number.0 as u64)
-}
-
-fn order(row: Window, other: Window) -> sorted::Order
-    ensures { λ r. ⌜ r ≡ cmp windows (keyOf windows row) (keyOf windows other) ⌝ }
-{
-    let number = row.number;
-    stands(number, other)
-}
-
-fn key_is(row: Window, number: WindowNumber) -> bool
-    ensures { λ r. ⌜ r ≡ same (cmp windows (number .0) (keyOf windows row)) ⌝ }
-{
-    sorted::same(stands(number, row))
-}
-
-fn key_is_not(row: Window, number: WindowNumber) -> bool
-    ensures { λ r. ⌜ r ≡ not (same (cmp windows (number .0) (keyOf windows row))) ⌝ }
-{
-    sorted::not(key_is(row, number))
-}
-
-fn mentioned(row: Window, l: Label) -> bool
-    ensures { λ r. ⌜ r ≡ among (labelOf l) (mentions windows row) ⌝ }
-{
-    let n = row.number;
-    let p = row.parent;
-    let o = row.opener;
-    sorted::either(
-        labels::same(l, Label::OfWindow(n)),
-        sorted::either(labels::in_parent(l, p), labels::in_opener(l, o)),
-    )
-}
-
-fn spared(row: Window, gone: WindowNumbers) -> bool
-    ensures { λ r. ⌜ r ≡ spares gone row ⌝ }
-{
-    let n = row.number;
-    let among = labels::window_one_of(n, gone);
-    sorted::not(among)
-}
-
-fn test(row: Window, q: Which) -> bool
-    ensures { λ r. ⌜ r ≡ passes q row ⌝ }
-{
-    match q {
-        Which::KeyIs(number) => key_is(row, number),
-        Which::KeyIsNot(number) => key_is_not(row, number),
-        Which::Mentions(l) => mentioned(row, l),
-    }
-}
-
-// The place of the first row that does not stand before r, whether it has r's key, and how many rows count.
-fn seek(t: Windows, r: Window) -> sorted::At
-    ensures { λ a. ⌜ Sought (stand (keyOf windows) (cmp windows) r) (t .count) (cap windows) (t .rows) (a .place) (a .hit) (a .used) ⌝ }
-{
-    let n = sorted::used(t.count, WINDOWS);
+    let n = size(m);
     let mut i: usize = 0;
     while i < n {
-        let o = order(r, t.rows[i]);
+        let o = stands(number, row(m, i));
         if sorted::after(o) {
             i += 1;
         } else {
@@ -137,128 +59,114 @@ fn seek(t: Windows, r: Window) -> sorted::At
     }
 }
 
-// `row` at p, and the rows from p on moved up by one.
-fn insert_at(t: Windows, p: usize, row: Window) -> Windows
-    ensures { λ r. ⌜ r .rows ≡ take (cap windows) (opened p row (t .rows)) ⌝ }
-{
-    let mut u = t;
-    let mut hold = row;
-    let mut i = p;
-    while i < WINDOWS {
-        let next = u.rows[i];
-        u.rows[i] = hold;
-        hold = next;
-        i += 1;
-    }
-    u
-}
-
 // The first row that passes a test.
-pub fn first(t: Windows, q: Which) -> Found
-    ensures { λ r. ⌜ looked (r .found) (r .row) ≡ find (passes q) (take (t .count) (t .rows)) ⌝ }
+pub fn first(m: &Memory, q: Which) -> Found
+    ensures { λ r. ⌜ looked (r .found) (r .row) ≡ find (passes q) (table windowsIn (now (m .entry))) ⌝ }
 {
-    let n = sorted::used(t.count, WINDOWS);
+    let n = size(m);
     let mut i: usize = 0;
     while i < n {
-        let row = t.rows[i];
-        if test(row, q) {
+        let found = row(m, i);
+        if test(found, q) {
             return Found {
                 found: true,
-                row: row,
+                row: found,
             };
         }
         i += 1;
     }
-    let row = t.rows[0];
+    let none = blank();
     Found {
         found: false,
-        row: row,
+        row: none,
     }
 }
 
-// The rows that pass a test.
-pub fn keep(t: Windows, q: Which) -> Windows
-    ensures { λ r. ⌜ take (r .count) (r .rows) ≡ keep (passes q) (take (t .count) (t .rows)) ⌝ }
+// Only rows that pass a test stay. None is copied onto itself.
+pub fn keep(m: &mut Memory, q: Which)
+    ensures { λ r. ⌜ Kept windowsIn (passes q) (now (m .entry)) (now (m .exit)) ⌝ }
 {
-    let n = sorted::used(t.count, WINDOWS);
-    let mut u = t;
+    memory::whole(m);
+    let n = size(m);
     let mut j: usize = 0;
     let mut i: usize = 0;
     while i < n {
-        let row = u.rows[i];
-        if test(row, q) {
-            u.rows[j] = row;
-            j += 1;
-            i += 1;
+        let seen = row(m, i);
+        if test(seen, q) {
+            if j < i {
+                memory::carry(m, FIRST + i * WIDTH, FIRST + j * WIDTH, WIDTH);
+                j += 1;
+                i += 1;
+            } else {
+                j += 1;
+                i += 1;
+            }
         } else {
             i += 1;
         }
     }
-    u.count = j;
-    u
+    m[COUNT] = j as u32;
 }
 
-// The table with a row, in the place of the one with its key; no room where all rows are taken by other keys.
-pub fn put(t: Windows, row: Window) -> Offer
-    ensures { λ r. ⌜ Offered (cap windows) (insert (keyOf windows) (cmp windows) row (take (t .count) (t .rows))) (take (r .table .count) (r .table .rows)) (r .done) ⌝ }
+// A row goes in, in the place of the one with its key; whether there was room. Where there was none, nothing changes.
+pub fn put(m: &mut Memory, row: Window) -> bool
+    ensures { λ r. ⌜ Put windowsIn (keyOf windows) (cmp windows) row (now (m .entry)) (now (m .exit)) r ⌝ }
 {
-    let s = seek(t, row);
+    memory::whole(m);
+    let number = row.number;
+    let s = seek(m, number);
     let at = s.place;
     let n = s.used;
     if s.hit {
-        let mut u = t;
-        u.rows[at] = row;
-        return Offer {
-            table: u,
-            done: true,
-        };
+        write(m, at, row);
+        return true;
     }
     if n < WINDOWS {
-        let mut u = insert_at(t, at, row);
-        u.count = n + 1;
-        return Offer {
-            table: u,
-            done: true,
-        };
+        memory::shift(m, FIRST + at * WIDTH, FIRST + n * WIDTH, WIDTH);
+        write(m, at, row);
+        m[COUNT] = (n + 1) as u32;
+        return true;
     }
-    Offer {
-        table: t,
-        done: false,
-    }
+    false
 }
 
-// How many rows count.
-pub fn size(t: Windows) -> usize
-    ensures { λ r. ⌜ r ≡ length (take (t .count) (t .rows)) ⌝ }
+// No row is left.
+pub fn clear(m: &mut Memory)
+    ensures { λ r. ⌜ Cleared windowsIn (now (m .entry)) (now (m .exit)) ⌝ }
 {
-    sorted::used(t.count, WINDOWS)
+    memory::whole(m);
+    m[COUNT] = 0;
 }
 
 // Whether no row speaks of a label.
-pub fn clean(t: Windows, l: Label) -> bool
-    ensures { λ r. ⌜ r ≡ clean windows (labelOf l) (take (t .count) (t .rows)) ⌝ }
+pub fn clean(m: &Memory, l: Label) -> bool
+    ensures { λ r. ⌜ r ≡ clean windows (labelOf l) (table windowsIn (now (m .entry))) ⌝ }
 {
-    sorted::not(first(t, Which::Mentions(l)).found)
+    sorted::not(first(m, Which::Mentions(l)).found)
 }
 
-// The rows that are spared.
-pub fn without(t: Windows, gone: WindowNumbers) -> Windows
-    ensures { λ r. ⌜ take (r .count) (r .rows) ≡ keep (spares gone) (take (t .count) (t .rows)) ⌝ }
+// Only rows that are spared stay.
+pub fn without(m: &mut Memory, gone: WindowNumbers)
+    ensures { λ r. ⌜ Kept windowsIn (spares gone) (now (m .entry)) (now (m .exit)) ⌝ }
 {
-    let n = sorted::used(t.count, WINDOWS);
-    let mut u = t;
+    memory::whole(m);
+    let n = size(m);
     let mut k: usize = 0;
     let mut i: usize = 0;
     while i < n {
-        let row = u.rows[i];
-        if spared(row, gone) {
-            u.rows[k] = row;
-            k += 1;
-            i += 1;
+        let seen = row(m, i);
+        if spared(seen, gone) {
+            if k < i {
+                memory::carry(m, FIRST + i * WIDTH, FIRST + k * WIDTH, WIDTH);
+                k += 1;
+                i += 1;
+            } else {
+                k += 1;
+                i += 1;
+            }
         } else {
             i += 1;
         }
     }
-    u.count = k;
-    u
+    m[COUNT] = k as u32;
 }

@@ -7,8 +7,8 @@ use native.Mathlib.Omega.{arith}
 use lib.ListN.{length, take}
 use Rattle.csexp.specs.Text.{text}
 use Rattle.csexp.specs.Term.{decimal, digits, write}
-use Rattle.csexp_write.specs.Encode.{numberTerm, labelled}
-use Rattle.csexp_write.proofs.Bounds.{Short, Shorts, short-list, short-nil, short-cons, short-joins, short-less, shorts-less, short-word, short-number, short-optional, short-labelled, short-each}
+use Rattle.csexp.specs.Encode.{numberTerm, labelled}
+use Rattle.csexp.proofs.write.Bounds.{Short, Shorts, short-list, short-nil, short-cons, short-joins, short-less, shorts-less, short-word, short-number, short-optional, short-labelled, short-each}
 use Rattle.shapes.specs.Nouns.{Host, DnsNumber, KeyNumber, Protocol, Plain, Secure, Fragment, Absent, Named, Url, CookieName, Pair, Method, Get, Head, Post, Put, Delete, Connect, Options, Trace, OriginHeader, Unsent, Null, From, Referrer, Unknown, Known, Request}
 use Rattle.shapes.specs.Events.{protocolTerm, fragmentTerm, urlTerm, methodTerm, nameTerm, pairTerm, cookieHeader, originHeader, refererHeader, requestTerm, sealedTerm, questionTerm, Message, resolve, unsealed, sealed, eventOf, eventText}
 use Rattle.writing.specs.Sized.{Small, FragmentSmall, UrlSmall, PairSmall, OriginSmall, ReferrerSmall, RequestSmall, MessageSmall, AnySmall}

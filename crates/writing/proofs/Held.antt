@@ -8,8 +8,8 @@ use denote.Array.{each}
 use denote.Laws.{Is}
 use denote.Shadow.{shadow}
 use denote.Struct.Field.{Field}
-use Rattle.writing_parts.proofs.Held.{sixty-four}
-use Rattle.csexp_write.proofs.Backs.{Each, each-none, each-more}
+use Rattle.writing.proofs.CookieRows.{sixty-four}
+use Rattle.csexp.proofs.write.Backs.{Each, each-none, each-more}
 use Rattle.types.proofs.Fragment as a-fragment
 use Rattle.types.proofs.Url as a-url
 use Rattle.types.proofs.cookies.Pair as a-pair

@@ -13,10 +13,10 @@ use lib.ListN.{length}
 use lib.Dec.{leb}
 use borrow.Author.Tests.{le-leb}
 use Rattle.csexp.specs.Term.{write}
-use Rattle.csexp_write.specs.declared.Written.{Written}
-use Rattle.csexp_write.specs.declared.Written.the-variants.{Bytes}
-use Rattle.csexp_write.specs.Puts.{over, Puts}
-use Rattle.csexp_write.specs.Sent.{Sent}
+use Rattle.csexp.specs.declared.write.Written.{Written}
+use Rattle.csexp.specs.declared.write.Written.the-variants.{Bytes}
+use Rattle.csexp.specs.Puts.{over, Puts}
+use Rattle.csexp.specs.Sent.{Sent}
 use Rattle.shapes.specs.Events.{Message, resolve, unsealed, sealed, eventOf, eventText}
 use Rattle.writing.specs.Wrote.{Long, Wrote}
 

@@ -1,3 +1,5 @@
--- What the writer of events leaves in a buffer, what it answers, and how large the numbers of a message are.
+-- What the writer of events leaves in a buffer, what it answers, and how large the numbers of a message are; how an event that went out is read, and which messages are within 01's ranges.
 pub mod Wrote
 pub mod Sized
+pub mod Outgoing
+pub mod Within

@@ -2,7 +2,7 @@
 use mathlib.Core.Option.{Option, none, some}
 use Prim.Native.Nat.{ℕ, _≤_}
 use lib.ListN.{length, take}
-use Rattle.csexp_write.proofs.Backs.{Each}
+use Rattle.csexp.proofs.write.Backs.{Each}
 use Rattle.shapes.specs.Nouns.{Fragment, Absent, Named, Url, Pair, OriginHeader, Unsent, Null, From, Referrer, Unknown, Known, Request}
 use Rattle.shapes.specs.Words.{most32}
 use Rattle.shapes.specs.Events.{Message, resolve, unsealed, sealed}

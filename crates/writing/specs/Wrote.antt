@@ -6,9 +6,9 @@ use mathlib.Core.Option.{Option, none, some}
 use Prim.Native.Nat.{ℕ, _≤_}
 use lib.ListN.{length}
 use Rattle.csexp.specs.Term.{write}
-use Rattle.csexp_write.specs.declared.Written.{Written}
-use Rattle.csexp_write.specs.declared.Written.the-variants.{Bytes}
-use Rattle.csexp_write.specs.Sent.{answer, left}
+use Rattle.csexp.specs.declared.write.Written.{Written}
+use Rattle.csexp.specs.declared.write.Written.the-variants.{Bytes}
+use Rattle.csexp.specs.Sent.{answer, left}
 use Rattle.shapes.specs.Events.{Message, eventOf, eventText}
 
 -- a step without a message is answered wherever the place lies

@@ -1,18 +1,18 @@
 // Questions to the DNS server, and events: 01 "An event is receiver, sender, message; the browser has address 1, its DNS server 2".
 use super::requests::write_request;
 use super::requests::write_sealed;
-use csexp_write::close_list;
-use csexp_write::labelled;
-use csexp_write::number;
-use csexp_write::open_list;
-use csexp_write::open_word;
+use csexp::write::close_list;
+use csexp::write::labelled;
+use csexp::write::number;
+use csexp::write::open_list;
+use csexp::write::open_word;
 use types::Address;
 use types::DnsNumber;
 use types::Host;
 use types::KeyNumber;
 use types::Request;
 use types::Sent;
-ghost use Rattle.csexp_write.specs.Puts.{Puts, Writes};
+ghost use Rattle.csexp.specs.Puts.{Puts, Writes};
 ghost use Rattle.shapes.specs.Events.{questionTerm, requestTerm, sealedTerm, eventTerm, eventText, messageOf};
 
 // (10:DNSResolve host (3:dns number))

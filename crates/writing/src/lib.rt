@@ -1,8 +1,12 @@
-// Writes what goes out into a buffer that is lent (01 "The text", "Refusal numbers").
+// Writes what goes out into a buffer that is lent (01 "The text", "Refusal numbers"). The writers of its parts each write a term at a position of a lent slice, as those
+// of csexp::write do. That nothing of an event is lost, so written, is a theorem (proofs/Backs).
+pub mod addresses; // protocols, fragments, addresses, origins
+pub mod cookies; // the Cookie header
+pub mod headers; // the headers of a request
 mod requests; // methods, requests, requests under a key
 mod events; // questions, and what goes out as a whole
 
-use csexp_write::Written;
+use csexp::write::Written;
 use types::Request;
 use types::Sent;
 ghost use Rattle.shapes.specs.Events.{messageOf};

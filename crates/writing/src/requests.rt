@@ -1,17 +1,17 @@
 // Requests: 000 Definition 15 (12), and under a key.
-use csexp_write::close_list;
-use csexp_write::labelled;
-use csexp_write::number;
-use csexp_write::open_list;
-use csexp_write::open_word;
-use csexp_write::optional;
-use csexp_write::word;
-use methods::spelling_of;
+use crate::headers::write_headers;
+use csexp::write::close_list;
+use csexp::write::labelled;
+use csexp::write::number;
+use csexp::write::open_list;
+use csexp::write::open_word;
+use csexp::write::optional;
+use csexp::write::word;
 use types::KeyNumber;
 use types::Method;
 use types::Request;
-use writing_parts::write_headers;
-ghost use Rattle.csexp_write.specs.Puts.{Writes};
+use words::spelling_of;
+ghost use Rattle.csexp.specs.Puts.{Writes};
 ghost use Rattle.shapes.specs.Events.{methodTerm, requestTerm, sealedTerm};
 
 // 3:GET and so on, by the table that the reader goes by.

@@ -1,5 +1,6 @@
 -- By what the calls ensure. Written by tools/tables.py.
 use mathlib.Core.Path.{_∙_}
+use mathlib.Core.Bool.{not}
 use Rattle.labels.proofs.Laws.{clean-first}
 use Rattle.tables.specs.Tables.{pendingRequests}
 use Rattle.pending_requests.proofs.clean.Statement.{statement}

@@ -6,8 +6,9 @@ use Rattle.scripts.proofs.act.Tie as tie
 
 returns : tie.Need-returns
 returns c =
-    let a = c .before .before .before .before .before .args in
-    acts (record { window = a .w; document = a .d; top = a .top; merged = c .before .merge .result; output = a .out }) (take (a .few .count) (a .few .rows)) (a .b) (a .f) _ (c .before .merge .ensures) (c .command .ensures)
+    let a = c .before .before .before .before .before .before .args in
+    let g = c .before .before .merge in
+    acts (record { window = a .w; document = a .d; top = a .top; merged = g .result; output = a .out }) (take (a .new .count) (a .new .rows)) (a .f) (a .m .now) _ _ (g .ensures) (c .command .ensures)
 
 pub act-spec : {M : Type 1} → statement M
 act-spec = tie.close (tie.spec (λ c κs. tt) (λ c κs. tt) returns)

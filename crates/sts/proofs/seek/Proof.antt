@@ -1,32 +1,30 @@
--- The loop looks for the first row that does not stand before r. Written by tools/tables.py.
+-- The loop looks for the first row that does not stand before the key. Written by tools/tables.py.
+use mathlib.Core.Path.{sym, ap, _∙_}
 use Prim.Native.Nat.{_-_}
-use mathlib.Core.Path.{sym, _∙_, ap}
 use native.Mathlib.Omega.{arith}
-use Rattle.sorted.specs.Order.{after}
-use Rattle.sorted.specs.Table.{stand}
-use Rattle.sorted.proofs.Count.{mapped}
-use Rattle.sorted.proofs.Seek.{Seeking, seek-start, seek-next, seek-hit, seek-end}
-use Rattle.tables.specs.Tables.{sts, keyOf, cmp, cap}
+use Rattle.sorted.specs.Order.{same, after}
+use Rattle.memory.proofs.Loops.{Searching, search-start, search-next, search-hit, search-end}
+use Rattle.sts.specs.Which.{keyStands}
+use Rattle.layouts.specs.Tables.{stsIn}
 use Rattle.sts.proofs.seek.Statement.{statement}
 use Rattle.sts.proofs.seek.Tie as tie
 
 abbrev Inv-loop : tie.InvT-loop
-Inv-loop r t n i₀ i = Seeking (stand (keyOf sts) (cmp sts) r) (t .count) (cap sts) n (t .rows) i
+Inv-loop m host n i₀ i = Searching stsIn (keyStands host) m n i
 
 abbrev μ-loop : tie.MeasureT-loop
-μ-loop r t n i₀ i = n - i
+μ-loop m host n i₀ i = n - i
 
 pub seek-spec : {M : Type 1} → statement M
 seek-spec = tie.close (tie.spec Inv-loop μ-loop
     (λ c κs. tt)
-    (λ c. seek-start (search mapped) (c .used .ensures))
-    (λ c. omega arith)
-    (λ c. omega arith)
+    (λ c. search-start (c .size .ensures))
     (λ c κs. tt)
     (λ c κs. tt)
-    (λ c. omega arith)
-    (λ c. omega arith)
-    (λ c. seek-next (c .before .before .before .before .before .loop .inv) _ (omega arith) (ap after (sym (c .before .before .order .ensures)) ∙ sym (c .before .after .ensures) ∙ c .if1 .taken))
     (λ c κs. tt)
-    (λ c. rw (c .same .ensures, c .before .before .before .order .ensures) (seek-hit (c .before .before .before .before .before .before .loop .inv) _ (omega arith) (ap after (sym (c .before .before .before .order .ensures)) ∙ sym (c .before .before .after .ensures) ∙ c .before .if1 .left)))
-    (λ c. seek-end (c .before .loop .inv) (omega arith)))
+    (λ c. omega arith)
+    (λ c. omega arith)
+    (λ c. search-next (c .before .before .before .before .before .loop .inv) (c .before .before .before .row .ensures) (omega arith) (ap after (sym (c .before .before .stands .ensures)) ∙ sym (c .before .after .ensures) ∙ c .if1 .taken))
+    (λ c κs. tt)
+    (λ c. rw (c .same .ensures, c .before .before .before .stands .ensures) (search-hit (c .before .before .before .before .before .before .loop .inv) (c .before .before .before .before .row .ensures) (omega arith) (ap after (sym (c .before .before .before .stands .ensures)) ∙ sym (c .before .before .after .ensures) ∙ c .before .if1 .left)))
+    (λ c. search-end (c .before .loop .inv) (omega arith)))

@@ -1,7 +1,7 @@
 -- `writing::write_event` meets its contract: a law for each return.
 use native.Mathlib.Omega.{arith}
 use borrow.Author.Needs.{needs}
-use Rattle.csexp_write.proofs.Tops.{sent-there, sent-not}
+use Rattle.csexp.proofs.write.Tops.{sent-there, sent-not}
 use Rattle.writing.proofs.Tops.{counts, wrote-none, wrote-some}
 use Rattle.writing.proofs.write_event.Statement.{statement}
 use Rattle.writing.proofs.write_event.Tie as tie

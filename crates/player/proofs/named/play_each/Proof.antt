@@ -5,10 +5,10 @@ use Rattle.player.proofs.named.play_each.Statement.{statement}
 use Rattle.player.proofs.named.play_each.Tie as tie
 
 abbrev Inv-loop : tie.InvT-loop
-Inv-loop words i₀ i = Unit {0}
+Inv-loop words m₀ i₀ m i = Unit {0}
 
 abbrev μ-loop : tie.MeasureT-loop
-μ-loop words i₀ i = words - i
+μ-loop words m₀ i₀ m i = words - i
 
 pub play-each-spec : {M : Type 1} → statement M
 play-each-spec = tie.close (tie.spec Inv-loop μ-loop (λ c. tt) (λ c κs. tt) (λ c. omega arith) (λ c. omega arith) (λ c. tt) (λ c. tt))

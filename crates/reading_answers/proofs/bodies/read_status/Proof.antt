@@ -3,8 +3,8 @@ use mathlib.Core.Path.{_≡_, sym, _∙_}
 use Prim.Native.Nat.{ℕ}
 use native.Mathlib.Omega.{arith}
 use borrow.Author.Needs.{needs}
-use Rattle.statuses.specs.declared.StatusKind.the-variants.{Redirects, Other}
-use Rattle.statuses.proofs.Statuses.{status-in, status-out}
+use Rattle.words.specs.declared.statuses.StatusKind.the-variants.{Redirects, Other}
+use Rattle.words.proofs.statuses.Statuses.{status-in, status-out}
 use Rattle.reading_parts.proofs.Ranges.{narrowed, outside}
 use Rattle.reading_answers.proofs.bodies.read_status.Statement.{statement}
 use Rattle.reading_answers.proofs.bodies.read_status.Tie as tie

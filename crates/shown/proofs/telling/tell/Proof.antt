@@ -2,7 +2,7 @@
 use mathlib.Core.Path.{sym}
 use borrow.Author.Needs.{needs}
 use lib.Seq.{length-take-le}
-use Rattle.showing.proofs.One.{written-within}
+use Rattle.exhibit.proofs.One.{written-within}
 use Rattle.shown.proofs.telling.tell.Statement.{statement}
 use Rattle.shown.proofs.telling.tell.Tie as tie
 

@@ -1,6 +1,6 @@
 -- `writing::events::send_question` meets its contract: a law for each call.
 use borrow.Author.Needs.{needs}
-use Rattle.csexp_write.proofs.Steps.{closed, opened, passed}
+use Rattle.csexp.proofs.write.Steps.{closed, opened, passed}
 use Rattle.writing.proofs.events.send_question.Statement.{statement}
 use Rattle.writing.proofs.events.send_question.Tie as tie
 

@@ -1,6 +1,6 @@
 -- `writing::events::write_question` meets its contract: a law for each call.
 use borrow.Author.Needs.{needs}
-use Rattle.csexp_write.proofs.Steps.{closed, opened-word, passed}
+use Rattle.csexp.proofs.write.Steps.{closed, opened-word, passed}
 use Rattle.writing.proofs.events.write_question.Statement.{statement}
 use Rattle.writing.proofs.events.write_question.Tie as tie
 

@@ -1,7 +1,7 @@
 -- `writing::events::write_sent` meets its contract: a law for each arm.
 use native.Mathlib.Omega.{arith}
 use borrow.Author.Needs.{needs}
-use Rattle.csexp_write.proofs.Steps.{puts-none}
+use Rattle.csexp.proofs.write.Steps.{puts-none}
 use Rattle.shapes.specs.Events.{eventOf}
 use Rattle.writing.proofs.events.write_sent.Statement.{statement}
 use Rattle.writing.proofs.events.write_sent.Tie as tie

@@ -3,7 +3,7 @@ use mathlib.Core.Path.{sym, ap}
 use lib.Seq.{length-take-le}
 use borrow.Author.Needs.{needs}
 use Rattle.csexp.specs.Term.{atom}
-use Rattle.csexp_write.proofs.Steps.{writes-as}
+use Rattle.csexp.proofs.write.Steps.{writes-as}
 use Rattle.writing.proofs.requests.write_method.Statement.{statement}
 use Rattle.writing.proofs.requests.write_method.Tie as tie
 

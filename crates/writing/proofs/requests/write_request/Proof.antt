@@ -1,7 +1,7 @@
 -- `writing::requests::write_request` meets its contract: a law for each call.
 use borrow.Author.Needs.{needs}
 use mathlib.Core.Path.{_∙_}
-use Rattle.csexp_write.proofs.Steps.{closed, opened-word, passed}
+use Rattle.csexp.proofs.write.Steps.{closed, opened-word, passed}
 use Rattle.writing.proofs.requests.write_request.Statement.{statement}
 use Rattle.writing.proofs.requests.write_request.Tie as tie
 

@@ -1,6 +1,6 @@
 -- `writing::requests::write_sealed` meets its contract: a law for each call.
 use borrow.Author.Needs.{needs}
-use Rattle.csexp_write.proofs.Steps.{closed, opened, opened-word, passed}
+use Rattle.csexp.proofs.write.Steps.{closed, opened, opened-word, passed}
 use Rattle.writing.proofs.requests.write_sealed.Statement.{statement}
 use Rattle.writing.proofs.requests.write_sealed.Tie as tie
 

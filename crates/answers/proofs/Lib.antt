@@ -1,2 +1,0 @@
--- The way through an encrypted answer.
-pub mod Ways

@@ -1,0 +1,2 @@
+-- The browser that a memory holds.
+pub mod View

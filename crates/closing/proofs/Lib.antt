@@ -1,2 +1,0 @@
--- The ways through CLOSECORRUPT.
-pub mod Ways

@@ -1,2 +1,0 @@
--- What closing leaves of the tables.
-pub mod Emptied

@@ -1,0 +1,3 @@
+-- The laws of this table's rows.
+pub mod Coded
+pub mod Filled

@@ -1,7 +1,0 @@
--- By what the calls ensure. Written by tools/tables.py.
-use Rattle.labels.proofs.Laws.{or-false}
-use Rattle.documents.proofs.mentioned.Statement.{statement}
-use Rattle.documents.proofs.mentioned.Tie as tie
-
-pub mentioned-spec : {M : Type 1} → statement M
-mentioned-spec = tie.close (tie.spec (λ c κs. tt) (λ c κs. tt) (λ c κs. tt) (λ c. rw (or-false, c .either .ensures, c .before .same2 .ensures, c .before .before .same .ensures)))

@@ -1,4 +1,0 @@
--- The laws of drafts.
-pub mod Carry
-pub mod Judged
-pub mod One

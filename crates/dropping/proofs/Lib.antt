@@ -1,2 +1,0 @@
--- What is cancelled.
-pub mod Cancelling

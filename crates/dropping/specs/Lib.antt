@@ -1,2 +1,0 @@
--- What the shared parts of a step take from the tables.
-pub mod Effects

@@ -1,0 +1,3 @@
+-- The tree, level by level; what showing gives.
+pub mod Levels
+pub mod Exhibits

@@ -1,2 +1,0 @@
--- The law of moving bytes to the front.
-pub mod Moving

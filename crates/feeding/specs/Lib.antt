@@ -1,2 +1,0 @@
--- What is kept of an input.
-pub mod Keeps

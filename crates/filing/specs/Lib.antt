@@ -1,2 +1,0 @@
--- What a script hears next.
-pub mod Next

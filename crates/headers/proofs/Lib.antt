@@ -1,2 +1,0 @@
--- The laws of headers acted upon.
-pub mod Acting

@@ -1,2 +1,0 @@
--- What the headers of an answer do to the tables.
-pub mod Acted

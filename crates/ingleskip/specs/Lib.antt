@@ -1,0 +1,2 @@
+-- What the step under its name for C gives.
+pub mod Steps

@@ -1,0 +1,3 @@
+-- Every accepted step keeps the invariant: its tables in order, each number brought once (Numbered), windows and documents rooted (Rooted).
+pub mod Numbered
+pub mod Rooted

@@ -1,0 +1,1 @@
+// No code: that every accepted step keeps the invariant, as proofs alone.

@@ -1,2 +1,0 @@
--- The way through the loading of a document.
-pub mod Ways

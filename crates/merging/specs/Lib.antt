@@ -1,2 +1,0 @@
--- Which cookies may be set at all.
-pub mod Setting

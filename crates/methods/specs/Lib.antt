@@ -1,2 +1,0 @@
--- What a row of the code's table says.
-pub mod Spelt

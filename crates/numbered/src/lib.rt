@@ -1,1 +1,0 @@
-// That every number is brought once, as proofs alone: see proofs.

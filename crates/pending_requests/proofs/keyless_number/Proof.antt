@@ -1,6 +1,0 @@
--- By what the calls ensure. Written by tools/tables.py.
-use Rattle.pending_requests.proofs.keyless_number.Statement.{statement}
-use Rattle.pending_requests.proofs.keyless_number.Tie as tie
-
-pub keyless-number-spec : {M : Type 1} → statement M
-keyless-number-spec = tie.close (tie.spec (λ c κs. tt) (λ c κs. tt) (λ c. rw (c .both .ensures, c .before .before .before .has-no-key .ensures)))

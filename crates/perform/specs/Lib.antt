@@ -1,0 +1,2 @@
+-- What a step in place owes.
+pub mod Acts

@@ -1,2 +1,0 @@
--- What a step's code owes to its program.
-pub mod Performs

@@ -1,2 +1,0 @@
--- The ways through POSTMESSAGE.
-pub mod Ways

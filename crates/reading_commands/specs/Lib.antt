@@ -1,2 +1,0 @@
--- The commands in groups, so that no reader tries more than four.
-pub mod Kinds

@@ -1,2 +1,0 @@
--- The way through a redirect.
-pub mod Ways

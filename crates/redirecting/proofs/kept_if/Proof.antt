@@ -1,6 +1,0 @@
--- One of two origins agrees, or none does.
-use Rattle.redirecting.proofs.kept_if.Statement.{statement}
-use Rattle.redirecting.proofs.kept_if.Tie as tie
-
-pub kept-if-spec : {M : Type 1} → statement M
-kept-if-spec = tie.close (tie.spec (λ c. rw (c .if1 .taken)) (λ c. rw (c .if1 .left)))

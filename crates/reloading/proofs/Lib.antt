@@ -1,2 +1,0 @@
--- The ways through reload.
-pub mod Ways

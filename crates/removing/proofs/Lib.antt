@@ -1,0 +1,2 @@
+-- What the code's proofs cite: the loop that collects what goes.
+pub mod Gather

@@ -1,0 +1,2 @@
+-- What goes, and what is left of the tables then.
+pub mod Gone

@@ -1,3 +1,0 @@
--- The document that a command means, and what every script step stores.
-pub mod Gotten
-pub mod Stored

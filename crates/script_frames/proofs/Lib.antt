@@ -1,2 +1,0 @@
--- The ways through IFRAME.
-pub mod Ways

@@ -1,2 +1,0 @@
--- What IFRAME hangs.
-pub mod Frame

@@ -1,2 +1,0 @@
--- The ways through HREF and FORM.
-pub mod Ways

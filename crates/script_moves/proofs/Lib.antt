@@ -1,3 +1,0 @@
--- The ways through BACK, FORWARD and CLOSE.
-pub mod Front
-pub mod Ways

@@ -1,2 +1,0 @@
--- The ways of a page into a window.
-pub mod Ways

@@ -1,2 +1,0 @@
--- What HREF and FORM share.
-pub mod Navigation

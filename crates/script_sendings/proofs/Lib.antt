@@ -1,2 +1,0 @@
--- How a step ends in HTTP_SEND.
-pub mod Ways

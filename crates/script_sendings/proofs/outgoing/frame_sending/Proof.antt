@@ -1,6 +1,0 @@
--- By what the call ensures.
-use Rattle.script_sendings.proofs.outgoing.frame_sending.Statement.{statement}
-use Rattle.script_sendings.proofs.outgoing.frame_sending.Tie as tie
-
-pub frame-sending-spec : {M : Type 1} → statement M
-frame-sending-spec = tie.close (tie.spec (λ c κs. tt) (λ c. c .bodiless .ensures))

@@ -1,6 +1,0 @@
--- By what the calls ensure.
-use Rattle.script_sendings.proofs.outgoing.with_body.Statement.{statement}
-use Rattle.script_sendings.proofs.outgoing.with_body.Tie as tie
-
-pub with-body-spec : {M : Type 1} → statement M
-with-body-spec = tie.close (tie.spec (λ c κs. tt) (λ c κs. tt) (λ c. rw (c .sending-from .ensures, c .before .origin-of .ensures)))

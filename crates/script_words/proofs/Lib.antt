@@ -1,2 +1,0 @@
--- The ways through a script's commands that change the browser alone.
-pub mod Ways

@@ -1,2 +1,0 @@
--- The ways through XMLHTTPREQUEST.
-pub mod Ways

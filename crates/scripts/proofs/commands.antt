@@ -1,0 +1,6 @@
+-- The ways through a script's commands that send nothing.
+pub mod Ways
+pub mod Sets
+pub mod Posts
+pub mod Front
+pub mod Navigates

@@ -1,7 +1,0 @@
--- By what the calls ensure. Written by tools/tables.py.
-use Rattle.labels.proofs.Laws.{or-false, no-host}
-use Rattle.session_storage.proofs.mentioned.Statement.{statement}
-use Rattle.session_storage.proofs.mentioned.Tie as tie
-
-pub mentioned-spec : {M : Type 1} → statement M
-mentioned-spec = tie.close (tie.spec (λ c κs. tt) (λ c. rw (no-host, or-false) (c .same .ensures)))

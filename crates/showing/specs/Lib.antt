@@ -1,2 +1,0 @@
--- What showing gives.
-pub mod Exhibits

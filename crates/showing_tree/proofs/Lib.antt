@@ -1,2 +1,0 @@
--- The tree, level by level.
-pub mod Trees

@@ -1,2 +1,0 @@
--- What is shown in a window.
-pub mod Shown

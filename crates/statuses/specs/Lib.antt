@@ -1,2 +1,0 @@
--- What a status number says.
-pub mod Status

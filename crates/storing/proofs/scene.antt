@@ -1,0 +1,4 @@
+-- The laws of what a script's step stands on and stores.
+pub mod Getting
+pub mod Running
+pub mod Stores

@@ -1,2 +1,0 @@
--- The ways through urlbar.
-pub mod Ways

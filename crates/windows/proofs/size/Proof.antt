@@ -1,8 +1,0 @@
--- A count beyond the capacity reads as the capacity. Written by tools/tables.py.
-use Rattle.sorted.proofs.Count.{mapped, row-count}
-use Rattle.tables.specs.Tables.{windows, cap}
-use Rattle.windows.proofs.size.Statement.{statement}
-use Rattle.windows.proofs.size.Tie as tie
-
-pub size-spec : {M : Type 1} → statement M
-size-spec = tie.close (tie.spec (λ c κs. tt) (λ c. row-count (c .before .args .t .count) (cap windows) (c .used .result) (c .before .args .t .rows) (search mapped) (c .used .ensures)))

@@ -1,2 +1,0 @@
--- Nothing of an event that went out is lost.
-pub mod Backs

@@ -1,2 +1,0 @@
--- What is known of a cookie header by its type.
-pub mod Held

@@ -1,2 +1,0 @@
--- The ways through the answer to an XHR.
-pub mod Ways

@@ -1,2 +1,0 @@
--- Where an answer points.
-pub mod Toward
