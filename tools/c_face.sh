@@ -5,7 +5,7 @@ set -eu
 top=$(cd "$(dirname "$0")/.." && pwd)
 cd "$top"
 archive=target/staticlib/libingleskip.a
-[ "${1-}" = --built ] || rt staticlib ingleskip >/dev/null || { cat target/log/ingleskip.say >&2; exit 1; }
+[ "${1-}" = --built ] || rt staticlib ingleskip >/dev/null 2>&1 || { cat target/log/ingleskip.say >&2; exit 1; }
 kit=$(dirname "$(dirname "$(rt doc)")")
 tools=$kit/on/$(uname -m)/toolchain
 [ -d "$tools" ] || tools=$kit/toolchain

@@ -299,7 +299,7 @@ pub record PutAll (h : Host) (cs : List Cookie) (m n : List ℕ) (done : Bool) :
 FILLED_LAWS = """-- The loop that puts several cookies in, by the law of `sorted` for the rows. Written by tools/tables.py.
 use mathlib.Core.Path.{_≡_, sym, ap, _∙_}
 use mathlib.Core.Bool.{Bool, true, false, cond}
-use mathlib.Core.List.{List, [], _∷_}
+use mathlib.Core.List.{List, _∷_}
 use Prim.Native.Nat.{ℕ, _+_, _≤_, _<_, min}
 use lib.Dec.{leb}
 use lib.ListN.{length, getD, take, drop}

@@ -1,17 +1,17 @@
--- What a table's functions ensure, said of the whole view: one edit of that table; and whether there was room is whether the tables fit.
-use mathlib.Core.Path.{_≡_, refl, sym, ap, _∙_, subst}
+-- What a table's functions ensure, said of the whole view: one edit of that table. A memory's tables always fit.
+use mathlib.Core.Path.{_≡_, refl, sym, ap, _∙_}
 use mathlib.Core.Bool.{Bool, true, false}
 use mathlib.Core.List.{List, [], _∷_, map}
-use Prim.Native.Nat.{ℕ, _≤_}
+use Prim.Native.Nat.{ℕ}
 use borrow.Author.Tests.{le-leb}
 use lib.Dec.{leb}
 use lib.ListN.{length}
-use Rattle.sorted.specs.Table.{put, sift, keep, insert}
+use Rattle.sorted.specs.Table.{put, sift, keep}
 use Rattle.sorted.proofs.Count.{taken-fits}
-use Rattle.tables.specs.Tables.{Table, Row, keyOf, cmp, cap, Tables, changed, update, apply}
-use Rattle.tables.proofs.Update.{each, update-one, updated, every-true, every-false}
-use Rattle.wim.specs.Step.{fit, fits}
-use Rattle.memory.specs.Rows.{rows, count, table, Kept, Put, Revised, Cleared}
+use Rattle.tables.specs.Tables.{Table, Row, keyOf, cmp, cap, changed, update, apply}
+use Rattle.tables.proofs.Update.{each}
+use Rattle.wim.specs.Step.{fit}
+use Rattle.memory.specs.Rows.{rows, count, Kept, Put, Revised, Cleared}
 use Rattle.memory.proofs.Table.{rows-length}
 use Rattle.browser.specs.View.{laid, view}
 use Rattle.browser.proofs.Frame.{changes-one}
@@ -40,14 +40,3 @@ module _ (t : Table) {m n : List ℕ} where
 
   pub view-put : {r : Row t} {done : Bool} → Put (laid t) (keyOf t) (cmp t) r m n done → done ≡ true → view n ≡ apply t (put r ∷ []) (view m)
   view-put {r} k e = changes-one t (changed t (put r ∷ [])) (k .rest) (k .rows .rows e)
-
-  pub view-room : {r : Row t} {done : Bool} → Put (laid t) (keyOf t) (cmp t) r m n done → fits (apply t (put r ∷ []) (view m)) ≡ done
-  unfolding fits
-  view-room {r} {done} k = go done refl
-    where
-      had : leb (length (changed t (put r ∷ []) (view m t))) (cap t) ≡ done
-      had = ap (leb (length (changed t (put r ∷ []) (view m t)))) (sym (capacities t)) ∙ sym (k .rows .had)
-
-      go : (b : Bool) → done ≡ b → fits (apply t (put r ∷ []) (view m)) ≡ done
-      go true e = every-true (fit (apply t (put r ∷ []) (view m))) (update-one (λ u l. leb (length l) (cap u) ≡ true) t (changed t (put r ∷ [])) (view m) (view-fits m) (had ∙ e)) ∙ sym e
-      go false e = every-false (fit (apply t (put r ∷ []) (view m))) t (ap (λ (l : List (Row t)). leb (length l) (cap t)) (updated t (changed t (put r ∷ [])) (view m)) ∙ had ∙ e) ∙ sym e

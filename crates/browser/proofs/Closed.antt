@@ -1,19 +1,18 @@
 -- The last number is in no table, and tells whether the browser is closed; four free rows.
-use mathlib.Core.Path.{_≡_, refl, sym, ap, _∙_}
-use mathlib.Core.Bool.{Bool, true, false, not}
+use mathlib.Core.Path.{_≡_, ap, _∙_}
+use mathlib.Core.Bool.{Bool, true, not}
 use mathlib.Core.List.{List}
 use Prim.Native.Nat.{ℕ, _+_, _-_, _≤_}
 use native.Mathlib.Omega.{arith}
 use borrow.Author.Tests.{leb-true}
 use lib.Dec.{eqb, leb, lit≤}
-use lib.ListN.{length, getD, set}
+use lib.ListN.{length, set}
 use lib.Seq.{getD-set-same}
 use Rattle.tables.specs.Tables.{Table, windows, documents, cookies, localStorage, sessionStorage, inputs, pendingDNS, pendingRequests, sts, cap}
-use Rattle.tables.specs.Labels.{every}
 use Rattle.tables.proofs.Update.{each, every-one}
 use Rattle.memory.specs.Rows.{total, Within, table}
 use Rattle.memory.proofs.Frame.{table-before, within-set}
-use Rattle.browser.specs.View.{laid, view, closedAt, isClosed, isRoomy, browser, withClosed}
+use Rattle.browser.specs.View.{laid, view, closedAt, isRoomy, browser, withClosed}
 
 same-tables : (m : List ℕ) (x : ℕ) → view (set m closedAt x) ≡ view m
 same-tables m x = λ k t. each (λ u. table (laid u) (set m closedAt x) ≡ table (laid u) m)

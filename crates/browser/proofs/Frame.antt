@@ -8,7 +8,7 @@ use native.Mathlib.Omega.{arith}
 use borrow.Author.Tests.{eqb-true}
 use lib.Dec.{eqb}
 use lib.ListN.{getD}
-use Rattle.tables.specs.Tables.{Table, windows, documents, cookies, localStorage, sessionStorage, inputs, pendingDNS, pendingRequests, sts, Row, index, Tables, update}
+use Rattle.tables.specs.Tables.{Table, windows, documents, cookies, localStorage, sessionStorage, inputs, pendingDNS, pendingRequests, sts, Row, index, update}
 use Rattle.tables.proofs.Update.{each, updated, spared}
 use Rattle.memory.specs.Rows.{Within, table, end}
 use Rattle.memory.proofs.Frame.{table-before, table-behind}

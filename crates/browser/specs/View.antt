@@ -1,5 +1,5 @@
 -- What a memory says: nine tables, and open or closed. Whatever its numbers are, it says something.
-use mathlib.Core.Bool.{Bool, true, false, not}
+use mathlib.Core.Bool.{Bool, not}
 use mathlib.Core.List.{List}
 use Prim.Native.Nat.{ℕ, _-_}
 use lib.Dec.{eqb, leb}
@@ -7,7 +7,7 @@ use lib.ListN.{length, getD}
 use Rattle.tables.specs.Tables.{Table, windows, documents, cookies, localStorage, sessionStorage, inputs, pendingDNS, pendingRequests, sts, Row, cap, Tables}
 use Rattle.tables.specs.Labels.{every}
 use Rattle.wim.specs.Step.{Browser}
-use Rattle.memory.specs.Rows.{Layout, table}
+use Rattle.memory.specs.Rows.{total, Layout, table}
 use Rattle.layouts.specs.Tables.{windowsIn, documentsIn, cookiesIn, localIn, sessionIn, inputsIn, questionsIn, requestsIn, stsIn}
 
 abbrev pub laid : (t : Table) → Layout (Row t)
@@ -27,7 +27,7 @@ view m t = table (laid t) m
 
 -- the last number tells whether the browser is closed
 abbrev pub closedAt : ℕ
-closedAt = 10239
+closedAt = total - 1
 
 abbrev pub isClosed : List ℕ → Bool
 isClosed m = not (eqb (getD m closedAt 0) 0)

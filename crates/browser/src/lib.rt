@@ -13,7 +13,7 @@ ghost use mathlib.Core.Path.{_≡_};
 ghost use Rattle.browser.specs.View.{isClosed, isRoomy, browser, withClosed};
 
 // The last number.
-const CLOSED: usize = 10239;
+const CLOSED: usize = memory::TOTAL - 1;
 
 pub fn is_closed(m: &Memory) -> bool
     ensures { λ r. ⌜ r ≡ isClosed (now (m .entry)) ⌝ }

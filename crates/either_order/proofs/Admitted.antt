@@ -10,24 +10,24 @@ use borrow.Author.Tests.{le-leb}
 use lib.Dec.{eqb}
 use lib.ListN.{length}
 use Rattle.sorted.specs.Table.{In}
-use Rattle.sorted.proofs.Never.{never}
 use Rattle.sorted.proofs.Tests.{and-both}
 use Rattle.tables.specs.Tables.{Table, Row, cap, Tables}
 use Rattle.tables.specs.Labels.{Label, host, code, among, mentions, clean, isFresh}
 use Rattle.tables.proofs.Update.{every-true}
 use Rattle.shapes.specs.Events.{Message}
-use Rattle.wim.specs.Nouns.{Fresh, NotFresh, Full}
-use Rattle.wim.specs.Program.{Outcome, refused, made}
+use Rattle.wim.specs.Nouns.{Fresh}
+use Rattle.wim.specs.Program.{Outcome, made}
 use Rattle.wim.specs.Step.{numbers, given, freshLabels, allFresh, fit, fits, admit}
 use Rattle.invariant.proofs.Numbered.Fresh.{Absent}
-use Rattle.either_order.proofs.Listed.{is-false, among-in}
+use Rattle.invariant.proofs.Rooted.Tests.{fails}
+use Rattle.either_order.proofs.Listed.{among-in}
 
 -- FRESH.
 absent-clean : (t : Table) (l : Label) (rs : List (Row t)) → ((r : Row t) → In r rs → In l (mentions t r) → ⊥) → clean t l rs ≡ true
 unfolding clean
 absent-clean t l [] h = refl
 absent-clean t l (x ∷ rs) h =
-    and-both (not (among l (mentions t x))) (clean t l rs) (ap not (is-false (among l (mentions t x)) (λ e. h x (inl refl) (among-in l (mentions t x) e)))) (absent-clean t l rs (λ r i. h r (inr i)))
+    and-both (not (among l (mentions t x))) (clean t l rs) (ap not (fails (among l (mentions t x)) (λ e. h x (inl refl) (among-in l (mentions t x) e)))) (absent-clean t l rs (λ r i. h r (inr i)))
 
 absent-fresh : (b : Tables) (l : Label) → Absent l b → isFresh b l ≡ true
 unfolding isFresh
@@ -63,15 +63,5 @@ unfolding fits
 sizes-fit b h = every-true (fit b) (λ t. le-leb (length (b t)) (cap t) (h t))
 
 -- AN ACCEPTED STEP is an accepted run with fresh numbers and rows enough.
-module _ (f : List Label) (b : Tables) where
-  pub admitted : (o : Outcome) (c : Tables) (m : Option Message) → admit f b o ≡ made c m → (o ≡ made c m) × (allFresh b f ≡ true)
-  admitted (refused r) c m e = never (cc)
-  admitted (made d n) c m e = go (allFresh b f) (fits d) refl e
-    where
-      go : (x y : Bool) → allFresh b f ≡ x → cond x (cond y (made d n) (refused Full)) (refused NotFresh) ≡ made c m → (made d n ≡ made c m) × (allFresh b f ≡ true)
-      go true true p h = (h, p)
-      go true false p h = never (cc)
-      go false y p h = never (cc)
-
-  pub admits : (o : Outcome) (c : Tables) (m : Option Message) → o ≡ made c m → allFresh b f ≡ true → fits c ≡ true → admit f b o ≡ made c m
-  admits o c m e p q = ap (admit f b) e ∙ (rw (p, q))
+pub admits : (f : List Label) (b : Tables) (o : Outcome) (c : Tables) (m : Option Message) → o ≡ made c m → allFresh b f ≡ true → fits c ≡ true → admit f b o ≡ made c m
+admits f b o c m e p q = ap (admit f b) e ∙ (rw (p, q))

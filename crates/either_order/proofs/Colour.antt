@@ -14,14 +14,15 @@ use Rattle.sorted.proofs.Member.{find-in, find-some}
 use Rattle.sorted.proofs.Lookup.{at-in}
 use Rattle.tables.specs.Tables.{windows, documents, pendingDNS, pendingRequests, keyOf, cmp, Tables}
 use Rattle.tables.specs.Labels.{Kind, window, request, dns, key, document, host, Label, leads}
-use Rattle.tables.specs.Rows.{sameDocument, hasKey}
+use Rattle.tables.specs.Rows.{hasKey}
 use Rattle.wim.specs.Nouns.{WindowNumber, DocumentNumber, KeyNumber, Host, Window, Document, Question, Waiting, Reference, Req, Xhr, Under, Seal, Keyless, Keyed}
 use Rattle.wim.specs.Walks.{windowNumbered, documentNumbered, aboveDocument, aboveRow, aboveParent, above, topAt, topAbove}
 use Rattle.wim.specs.LocalSteps.{topOfDocument, topOf}
 use Rattle.wim.specs.Invariant.{Numbered}
 use Rattle.tables.proofs.Update.{linear}
-use Rattle.wim.proofs.Numbers.{document-eq}
-use Rattle.either_order.proofs.Depth.{settled}
+use Rattle.wim.proofs.Numbers.{found-document}
+use Rattle.invariant.proofs.Rooted.Depth.{settled}
+use Rattle.invariant.proofs.Rooted.Stands.{in-document}
 
 pub data Colour : Type 0 where
   colourless : Colour
@@ -90,11 +91,10 @@ module _ (b : Tables) (N : Numbered b) where
 
   -- a document that is there is found by its number
   pub number-finds : (d : Document) → In d (b documents) → documentNumbered (b documents) (d .number) ≡ some d
-  unfolding documentNumbered
   number-finds d i =
-      let y = find-some (λ (x : Document). sameDocument (x .number) (d .number)) (b documents) d i (eq-eqb (d .number .0) (d .number .0) refl) in
-      let z = find-in (λ (x : Document). sameDocument (x .number) (d .number)) (b documents) (y .0) (y .1) in
-      y .1 ∙ ap some (N .documents-once (y .0) d (z .0) i (document-eq (y .0 .number) (d .number) (eqb-true (y .0 .number .0) (d .number .0) (z .1))))
+      let y = in-document (b documents) (d .number) d i refl in
+      let z = found-document (b documents) (d .number) (y .0) (y .1) in
+      y .1 ∙ ap some (N .documents-once (y .0) d (z .0) i (z .1))
 
   pub colour-document : (d : Document) → In d (b documents) → colour b document (d .number .0) ≡ colour b window (d .window .0)
   unfolding colour topOf

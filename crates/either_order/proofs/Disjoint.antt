@@ -16,12 +16,13 @@ use Rattle.wim.specs.Main.{program}
 use Rattle.wim.specs.Step.{freshLabels}
 use Rattle.wim.specs.LocalSteps.{home, topOfHome, stands, hosts}
 use Rattle.wim.specs.Invariant.{Numbered}
-use Rattle.invariant.proofs.Numbered.Fresh.{Absent}
+use Rattle.invariant.proofs.Numbered.Fresh.{Absent, in-among}
+use Rattle.invariant.proofs.Rooted.Tests.{fails}
 use Rattle.either_order.specs.Statement.{Apart}
 use Rattle.either_order.proofs.Part.{Part, sees}
 use Rattle.either_order.proofs.Keeps.{Owns}
 use Rattle.either_order.proofs.Commute.{side}
-use Rattle.either_order.proofs.Listed.{is-false, among-in, in-among, host-in, in-hosts}
+use Rattle.either_order.proofs.Listed.{among-in, host-in, in-hosts}
 use Rattle.either_order.proofs.Colour.{Colour, colourless, beneath, hosted, topColour, topOfLabel, colour}
 use Rattle.either_order.proofs.Owned.{ours, oursAt, owned, window-is, is-window}
 use Rattle.either_order.proofs.Seeds.{sought, Seeds}
@@ -73,7 +74,7 @@ module _ (b : Tables) (i j : Item) (A : Apart i j b) (Ni : New i b) (Nj : New j 
       go (inr p) (inr q) = A .new-new l (among-in l (freshLabels (i .fresh)) p) (among-in l (freshLabels (j .fresh)) q)
 
   pub disjoint : (l : Label) → ownedBy i b l ≡ true → ownedBy j b l ≡ false
-  disjoint l e = is-false (ownedBy j b l) (λ f. one-owner l e f)
+  disjoint l e = fails (ownedBy j b l) (λ f. one-owner l e f)
 
   abbrev Fᵢ : Part
   Fᵢ = side (ownedBy i b) (ownedBy j b) disjoint
@@ -85,7 +86,7 @@ module _ (b : Tables) (i j : Item) (A : Apart i j b) (Ni : New i b) (Nj : New j 
   -- a label is seen where the other's colours don't have it and the other doesn't bring it
   seen : (l : Label) → (oursAt b stⱼ hsⱼ l ≡ true → ⊥) → (In l (freshLabels (j .fresh)) → ⊥) → sees Fᵢ l ≡ true
   unfolding owned
-  seen l p q = ap not (is-false (ownedBy j b l) (λ e. go (or-one (oursAt b stⱼ hsⱼ l) (among l (freshLabels (j .fresh))) e)))
+  seen l p q = ap not (fails (ownedBy j b l) (λ e. go (or-one (oursAt b stⱼ hsⱼ l) (among l (freshLabels (j .fresh))) e)))
     where
       go : (oursAt b stⱼ hsⱼ l ≡ true) ⊎ (among l (freshLabels (j .fresh)) ≡ true) → ⊥
       go (inl e) = p e

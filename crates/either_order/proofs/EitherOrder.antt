@@ -16,14 +16,14 @@ use Rattle.wim.specs.Main.{cookiesIn, program}
 use Rattle.wim.specs.Step.{freshLabels, fits, stepTables, Browser, declined, accepted, closes, concluded, step}
 use Rattle.wim.specs.LocalSteps.{isLocal, stands, hosts}
 use Rattle.wim.specs.Invariant.{Numbered, MadeTables, untouched, stepped}
-use Rattle.invariant.proofs.Numbered.Fresh.{fresh-absent}
+use Rattle.invariant.proofs.Numbered.Fresh.{fresh-absent, admitted}
 use Rattle.invariant.proofs.Numbered.Steps.{made-numbered}
 use Rattle.either_order.specs.Statement.{Made, empty, next, EightFree, LocalStep, Apart, EitherOrder}
 use Rattle.either_order.proofs.Part.{Level, Whole}
 use Rattle.either_order.proofs.Commute.{side, commute}
 use Rattle.either_order.proofs.Owned.{level-owned}
 use Rattle.either_order.proofs.Kept.{kept}
-use Rattle.either_order.proofs.Admitted.{all-absent, no-host-fresh, sizes-fit, admitted, admits}
+use Rattle.either_order.proofs.Admitted.{all-absent, no-host-fresh, sizes-fit, admits}
 use Rattle.either_order.proofs.StillFresh.{still-absent}
 use Rattle.either_order.proofs.Disjoint.{ownedBy, New, disjoint, own-fresh, seeds}
 

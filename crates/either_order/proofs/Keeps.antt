@@ -6,29 +6,24 @@ use mathlib.Core.List.{List, [], _∷_, map}
 use mathlib.Core.Option.{Option}
 use Prim.Native.Nat.{ℕ, _+_, _≤_}
 use native.Mathlib.Omega.{arith}
-use borrow.Author.Tests.{eq-eqb}
 use lib.Dec.{eqb}
 use lib.ListN.{length}
 use Rattle.sorted.specs.Table.{In, All}
 use Rattle.sorted.proofs.Never.{never}
-use Rattle.sorted.proofs.Edits.{adds, length-acts}
+use Rattle.sorted.proofs.Edits.{adds}
 use Rattle.sorted.proofs.Sorted.{only}
 use Rattle.sorted.proofs.Equal.{only-acts}
-use Rattle.sorted.proofs.Revise.{length-map, only-map}
-use Rattle.tables.specs.Tables.{Table, Row, Key, keyOf, cmp, index, Tables, Edits, update, changed, apply}
+use Rattle.sorted.proofs.Revise.{only-map}
+use Rattle.tables.specs.Tables.{Table, Row, Key, keyOf, cmp, Tables, Edits, update, changed, apply}
 use Rattle.tables.specs.Labels.{Label, code, tag}
-use Rattle.tables.proofs.Update.{update-one, update-two}
+use Rattle.tables.proofs.Update.{update-two, linear}
 use Rattle.shapes.specs.Events.{Message}
 use Rattle.wim.specs.Nouns.{Refusal, NotFresh}
 use Rattle.wim.specs.Program.{Query, Observed, observed, Program, ask, edit, revise, bring, refuse, done, Outcome, refused, made, run}
-use Rattle.tables.proofs.Update.{linear}
 use Rattle.invariant.proofs.Numbered.Fresh.{of-kind}
+use Rattle.four_rows.proofs.Adds.{on, longer, as-long}
 use Rattle.either_order.proofs.Sight.{Even, restrict, Sees, sound}
 use Rattle.either_order.proofs.Part.{Part, sees, Ok, Fixes, level-even, Whole, Moved, whole-moved, moved-self, moved-trans, moved-edit, moved-revise}
-
--- so many rows of one table
-abbrev pub on : Table → ℕ → Table → ℕ
-on u m t = cond (eqb (index u) (index t)) m 0
 
 -- A PROGRAM KEEPS TO A PART on its way through a browser: it asks for what it may see, changes what it owns, owns the numbers that it
 -- brings, and adds at most four rows to a table (`n`: rows added so far, `m`: by this edit).
@@ -45,13 +40,6 @@ Owns F f = (l : Label) → In l f → F .own l ≡ true
 
 -- WHAT SUCH A PROGRAM DOES.
 module _ (F : Part) where
-  longer : (t : Table) (es : Edits t) (b : Tables) (m : ℕ) → adds es ≤ m → (u : Table) → length (apply t es b u) ≤ on t m u + length (b u)
-  longer t es b m h = update-one (λ u l. length l ≤ on t m u + length (b u)) t (changed t es) b (λ u. omega arith)
-      (let v = length-acts (keyOf t) (cmp t) es (b t) in let e : on t m t ≡ m = ap (λ (c : Bool). cond c m 0) (eq-eqb (index t) (index t) refl) in omega arith)
-
-  as-long : (t : Table) (g : Row t → Row t) (b : Tables) (u : Table) → length (update t (map g) b u) ≡ length (b u)
-  as-long t g b = update-one (λ u l. length l ≡ length (b u)) t (map g) b (λ u. refl) (length-map g (b t))
-
   abbrev Goes : (Table → ℕ) → Tables → Tables → Type 0
   Goes acc b c = Moved F b c × ((t : Table) → length (c t) + acc t ≤ length (b t) + 4)
 

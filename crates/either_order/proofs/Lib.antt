@@ -3,7 +3,6 @@ pub mod Sight
 pub mod Part
 pub mod Keeps
 pub mod Commute
-pub mod Depth
 pub mod Listed
 pub mod Colour
 pub mod Owned

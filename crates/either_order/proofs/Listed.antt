@@ -1,5 +1,5 @@
 -- Labels and hosts in lists: the test and the fact.
-use mathlib.Core.Path.{_≡_, refl, sym, _∙_, ap}
+use mathlib.Core.Path.{_≡_, refl, _∙_, ap}
 use mathlib.Core.Logic.{inl, inr}
 use mathlib.Core.Bool.{Bool, true, false, _||_}
 use mathlib.Core.List.{List, [], _∷_, _++_}
@@ -14,10 +14,6 @@ use Rattle.tables.specs.Rows.{sameHost}
 use Rattle.wim.specs.Nouns.{Host}
 use Rattle.invariant.proofs.Numbered.Fresh.{of-kind}
 
-pub is-false : (c : Bool) → (c ≡ true → ⊥) → c ≡ false
-is-false true h = absurd (h refl)
-is-false false h = refl
-
 -- LABELS.
 pub same-label : (l m : Label) → sameLabel l m ≡ true → l ≡ m
 same-label l m e =
@@ -31,10 +27,6 @@ label-same l = and-both (eqb (code (l .0)) (code (l .0))) (eqb (l .1) (l .1)) (e
 pub among-in : (l : Label) (f : List Label) → among l f ≡ true → In l f
 among-in l [] e = never (cc)
 among-in l (m ∷ f) e = elim (or-one (sameLabel l m) (among l f) e) [ inl p ↦ inl (same-label l m p) | inr p ↦ inr (among-in l f p) ]
-
-pub in-among : (l : Label) (f : List Label) → In l f → among l f ≡ true
-in-among l (m ∷ f) (inl e) = or-left (sameLabel l m) (among l f) (ap (sameLabel l) (sym e) ∙ label-same l)
-in-among l (m ∷ f) (inr i) = or-right (sameLabel l m) (among l f) (in-among l f i)
 
 -- HOSTS.
 abbrev pub hostOneOf : Host → List Host → Bool

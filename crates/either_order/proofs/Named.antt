@@ -27,11 +27,10 @@ use Rattle.wim.specs.LocalSteps.{localCommand, isLocal, stands, hosts, commandN
 use Rattle.wim.proofs.Numbers.{same-window, row-numbered}
 use Rattle.wim.proofs.Walks.{reached-row}
 use Rattle.tables.proofs.Update.{linear}
-use Rattle.invariant.proofs.Numbered.Fresh.{Absent, fresh-absent}
+use Rattle.invariant.proofs.Numbered.Fresh.{Absent, fresh-absent, admitted}
 use Rattle.either_order.specs.Statement.{Apart}
 use Rattle.either_order.proofs.Sight.{has-key}
 use Rattle.either_order.proofs.Listed.{tie-mentioned}
-use Rattle.either_order.proofs.Admitted.{admitted}
 use Rattle.either_order.proofs.Known.{in-keyless, in-keyed}
 
 -- WHAT AN ACCEPTED PROGRAM FOUND.

@@ -16,8 +16,9 @@ use Rattle.wim.specs.Navigable.{isWindow}
 use Rattle.wim.specs.Invariant.{Numbered}
 use Rattle.wim.proofs.Numbers.{same-window, window-same}
 use Rattle.invariant.proofs.Numbered.Fresh.{Absent}
+use Rattle.invariant.proofs.Rooted.Tests.{fails}
 use Rattle.either_order.proofs.Part.{pulls, pulled-refs, Level}
-use Rattle.either_order.proofs.Listed.{is-false, among-in, hostOneOf, tie-mentioned, ref-mentioned}
+use Rattle.either_order.proofs.Listed.{among-in, hostOneOf, tie-mentioned, ref-mentioned}
 use Rattle.either_order.proofs.Colour.{Colour, colourless, beneath, hosted, topColour, orHost, topOfLabel, entry, colour, colour-leads, colour-child, colour-document, colour-dns, colour-asked, colour-waiting, colour-key}
 
 -- is a colour one of the step's? st: where it stands; hs: its hosts
@@ -46,14 +47,14 @@ entry-ours st hs none h e = never (cc)
 entry-ours st hs (some t) h e = e
 
 module _ (b : Tables) (N : Numbered b) (st : Option WindowNumber) (hs : List Host) (f : List Label) (new : (l : Label) → In l f → Absent l b) where
-  or-false : (c : Bool) → (c || false) ≡ c
-  or-false true = refl
-  or-false false = refl
+  left-alone : (c d : Bool) → d ≡ false → (c || d) ≡ c
+  left-alone true d e = refl
+  left-alone false d e = e
 
   -- of a label that stands in the tables the colour decides
   pub owned-row : (t : Table) (r : Row t) → In r (b t) → (l : Label) → In l (mentions t r) → owned b st hs f l ≡ oursAt b st hs l
   unfolding owned
-  owned-row t r i l j = ap (λ (c : Bool). oursAt b st hs l || c) (is-false (among l f) (λ e. new l (among-in l f e) .nowhere t r i j)) ∙ or-false (oursAt b st hs l)
+  owned-row t r i l j = left-alone (oursAt b st hs l) (among l f) (fails (among l f) (λ e. new l (among-in l f e) .nowhere t r i j))
 
   module _ (few : length (b windows) ≤ 31) where
     by-colour : (a : Label) (l : Label) → a ≡ l → (m : Label) → colour b (l .0) (l .1) ≡ colour b (m .0) (m .1) → oursAt b st hs a ≡ oursAt b st hs m

@@ -4,6 +4,7 @@ use mathlib.Core.Logic.{_⊎_, inl, inr}
 use mathlib.Core.Bool.{Bool, true, false, not}
 use mathlib.Core.List.{List, [], _∷_, _++_, map}
 use mathlib.Core.Option.{Option, none, some}
+use borrow.Author.Tests.{not-true}
 use Rattle.sorted.specs.Table.{In, All, Edit, put, drop, sift, Sorted, at}
 use Rattle.sorted.proofs.Never.{never}
 use Rattle.sorted.proofs.Member.{all-in, in-append}
@@ -13,8 +14,8 @@ use Rattle.sorted.proofs.Lookup.{Touches, at-key, at-acts-other}
 use Rattle.sorted.proofs.Revise.{revised, in-map, sorted-map, at-map}
 use Rattle.tables.specs.Tables.{Table, windows, documents, cookies, localStorage, sessionStorage, inputs, pendingDNS, pendingRequests, sts, Row, Key, keyOf, cmp, Tables, Edits, update, changed, apply}
 use Rattle.tables.specs.Labels.{Label, leads, tag, ties, refs}
-use Rattle.tables.proofs.Update.{update-one}
-use Rattle.tables.proofs.Update.{linear}
+use Rattle.tables.proofs.Update.{update-one, linear}
+use Rattle.invariant.proofs.Rooted.Tests.{not-both}
 use Rattle.either_order.proofs.Sight.{Even}
 
 -- what a waiting row goes with: who owns the window or document that it refers to owns the row, not the other way round
@@ -107,10 +108,6 @@ module _ (F : Part) where
   ok-same t x r s o =
       (ap (λ (k : Key t). F .own (tag t k)) (s .same-key) ∙ o .0, subst (λ (l : List Label). All (λ a. F .own a ≡ true) l) (sym (s .same-ties)) (o .1), subst (λ (l : List Label). All (λ a. sees F a ≡ true) l) (sym (s .same-refs)) (o .2))
 
-  not-false : (c : Bool) → not c ≡ true → c ≡ true → ⊥
-  not-false true e f = never (cc)
-  not-false false e f = never (cc)
-
   -- rows that are put are level
   level-put-own : (t : Table) (r : Row t) → Ok F t (put r) → LevelAt (F .own) (tag t (keyOf t r)) (ties t r) (pulls t r)
   level-put-own t r o = (λ a i. all-in (λ a. F .own a ≡ true) (ties t r) (o .1) a i ∙ sym (o .0), λ a i e. o .0)
@@ -118,7 +115,7 @@ module _ (F : Part) where
   level-put-other : (t : Table) (r : Row t) → Ok F t (put r) → LevelAt (F .other) (tag t (keyOf t r)) (ties t r) (pulls t r)
   level-put-other t r o = (
     λ a i. F .apart a (all-in (λ a. F .own a ≡ true) (ties t r) (o .1) a i) ∙ sym (F .apart (tag t (keyOf t r)) (o .0)),
-    λ a i e. absurd (not-false (F .other a) (all-in (λ a. sees F a ≡ true) (refs t r) (o .2) a (pulled-refs t r a i)) e),
+    λ a i e. not-both e (not-true (F .other a) (all-in (λ a. sees F a ≡ true) (refs t r) (o .2) a (pulled-refs t r a i))),
   )
 
   level-moved : (P : Label → Bool) (b c : Tables) → Level P b → Moved F b c → ((t : Table) (r : Row t) → Ok F t (put r) → LevelAt P (tag t (keyOf t r)) (ties t r) (pulls t r)) → Level P c

@@ -21,17 +21,18 @@ use Rattle.wim.specs.Sending.{cancelNav, send}
 use Rattle.wim.specs.Script.{openerUnless, otherwise, href, iframeIn, iframe, isFormMethod, isGet, formSending, form, isForbidden, isGetOrHead, urlOrigin, xhrSending, xhr, command, runScript, store, sendingFrom, noData}
 use Rattle.wim.specs.LocalSteps.{newOrOwn, ownTarget, ownHolder, localCommand, commandHosts, home, hosts, documentHost}
 use Rattle.wim.proofs.Numbers.{same-window}
+use Rattle.four_rows.proofs.Adds.{on, four}
+use Rattle.four_rows.proofs.Programs.{none-yet, merged-few, afterStoring}
 use Rattle.either_order.proofs.Sight.{itself, reached-even}
 use Rattle.either_order.proofs.Part.{Part, sees, own-sees, level-even, Whole}
-use Rattle.either_order.proofs.Keeps.{on, Keeps}
-use Rattle.either_order.proofs.Commute.{nothing}
+use Rattle.either_order.proofs.Keeps.{Keeps}
 use Rattle.either_order.proofs.Listed.{in-left, in-right}
-use Rattle.either_order.proofs.Shared.{Always, four, kept-needs, kept-stop, merged-few, kept-send, kept-cancel, afterStoring, kept-store}
+use Rattle.either_order.proofs.Shared.{Always, kept-needs, kept-stop, kept-send, kept-cancel, kept-store}
 use Rattle.either_order.proofs.Seeds.{Seeds, reached-own, active-own, active-host}
 
 -- what a step does before its command: it stores
 abbrev Leads : Part → (Program → Program) → Type 0
-Leads F storing = (p : Program) → Always F (afterStoring nothing) p → Always F nothing (storing p)
+Leads F storing = (p : Program) → Always F (afterStoring none-yet) p → Always F none-yet (storing p)
 
 -- a navigation: what was under way into the window is cancelled, and a request goes out
 kept-navigate : (F : Part) (n : Table → ℕ) (v : WindowNumber) (o : Sending) → F .own (window, v .0) ≡ true → o .reference ≡ Req v → F .own (host, o .url .host .0) ≡ true
@@ -87,18 +88,18 @@ module _ (F : Part) (b : Tables) (W : Whole F b) (w : WindowNumber) (d : Documen
   opener-sees true = tt
   opener-sees false = (own-sees F (window, w .0) ow, tt)
 
-  kept-href : (url : Url) (noreferrer : Bool) (target : Target) → newOrOwn w target ≡ true → F .own (host, url .host .0) ≡ true → Keeps F nothing (href w d storing url noreferrer target) b
+  kept-href : (url : Url) (noreferrer : Bool) (target : Target) → newOrOwn w target ≡ true → F .own (host, url .host .0) ≡ true → Keeps F none-yet (href w d storing url noreferrer target) b
   unfolding href
   kept-href url noreferrer NewWindow e oh =
-      L _ (λ c v ov. (((ov, tt, opener-sees noreferrer), tt), 1, (omega arith), kept-navigate F (λ t. afterStoring nothing t + on windows 1 t) (record { 0 = v }) _ ov refl oh (four _ refl) _)) b
+      L _ (λ c v ov. (((ov, tt, opener-sees noreferrer), tt), 1, (omega arith), kept-navigate F (λ t. afterStoring none-yet t + on windows 1 t) (record { 0 = v }) _ ov refl oh (four _ refl) _)) b
   kept-href url noreferrer (Existing x) e oh =
-      (same-window x w e, L _ (kept-navigate F (afterStoring nothing) (observed (navigated w d x) b) _ (navigated-own x e) refl oh (four _ refl)) b)
+      (same-window x w e, L _ (kept-navigate F (afterStoring none-yet) (observed (navigated w d x) b) _ (navigated-own x e) refl oh (four _ refl)) b)
 
-  kept-iframe-in : (url : Url) (holder : Document) → F .own (document, holder .number .0) ≡ true → F .own (host, url .host .0) ≡ true → Keeps F nothing (iframeIn d storing url holder) b
+  kept-iframe-in : (url : Url) (holder : Document) → F .own (document, holder .number .0) ≡ true → F .own (host, url .host .0) ≡ true → Keeps F none-yet (iframeIn d storing url holder) b
   kept-iframe-in url holder o oh =
-      L _ (λ c v ov. (((ov, (o, tt), tt), tt), 1, (omega arith), kept-send F (λ t. afterStoring nothing t + on windows 1 t) _ (own-sees F (window, v) ov) oh (four _ refl) _)) b
+      L _ (λ c v ov. (((ov, (o, tt), tt), tt), 1, (omega arith), kept-send F (λ t. afterStoring none-yet t + on windows 1 t) _ (own-sees F (window, v) ov) oh (four _ refl) _)) b
 
-  kept-iframe : (url : Url) (holder : Holder) → ownHolder w holder ≡ true → F .own (host, url .host .0) ≡ true → Keeps F nothing (iframe d storing url holder) b
+  kept-iframe : (url : Url) (holder : Holder) → ownHolder w holder ≡ true → F .own (host, url .host .0) ≡ true → Keeps F none-yet (iframe d storing url holder) b
   unfolding iframe observed
   kept-iframe url Itself e oh = kept-iframe-in url d od oh
   kept-iframe url (Within x) e oh = (own-sees F (window, x .0) ox, kept-iframe-in url (otherwise d (observed (ofOrigin d x) b)) (holds (observed (ofOrigin d x) b) refl) oh)
@@ -110,12 +111,12 @@ module _ (F : Part) (b : Tables) (W : Whole F b) (w : WindowNumber) (d : Documen
       holds none f = od
       holds (some y) f = active-own F b W x ox y (found-active d (isReached (b windows) (b documents) x) (activeDocument (b documents) x) y f)
 
-  kept-form : (url : Url) (method : Method) (x : Data) (target : Target) → ownTarget w target ≡ true → F .own (host, url .host .0) ≡ true → Keeps F nothing (form w d storing url method x target) b
+  kept-form : (url : Url) (method : Method) (x : Data) (target : Target) → ownTarget w target ≡ true → F .own (host, url .host .0) ≡ true → Keeps F none-yet (form w d storing url method x target) b
   unfolding form
   kept-form url method x NewWindow e oh = never (cc)
   kept-form url method x (Existing y) e oh =
-      kept-stop F nothing b (not (isFormMethod method)) _
-      (same-window y w e, L _ (kept-navigate F (afterStoring nothing) v (formSending d url method x (Req v)) (navigated-own y e) (z .0) (ap (λ (u : Url). F .own (host, u .host .0)) (z .1) ∙ oh) (four _ refl)) b)
+      kept-stop F none-yet b (not (isFormMethod method)) _
+      (same-window y w e, L _ (kept-navigate F (afterStoring none-yet) v (formSending d url method x (Req v)) (navigated-own y e) (z .0) (ap (λ (u : Url). F .own (host, u .host .0)) (z .1) ∙ oh) (four _ refl)) b)
     where
       v : WindowNumber
       v = observed (navigated w d y) b
@@ -123,11 +124,11 @@ module _ (F : Part) (b : Tables) (W : Whole F b) (w : WindowNumber) (d : Documen
       z : (formSending d url method x (Req v) .reference ≡ Req v) × (formSending d url method x (Req v) .url ≡ url)
       z = form-reference d url method x (Req v)
 
-  kept-xhr : (url : Url) (method : Method) (x : Data) (matching : Matching) → F .own (host, url .host .0) ≡ true → Keeps F nothing (xhr d storing url method x (Xhr (d .number) matching)) b
+  kept-xhr : (url : Url) (method : Method) (x : Data) (matching : Matching) → F .own (host, url .host .0) ≡ true → Keeps F none-yet (xhr d storing url method x (Xhr (d .number) matching)) b
   unfolding xhr
   kept-xhr url method x matching oh =
-      kept-stop F nothing b (isForbidden method) _ (kept-stop F nothing b (not (sameOrigin (urlOrigin url) (originOf d))) _
-      (L _ (kept-send F (afterStoring nothing) (xhrSending d url method x r) (ap (λ (r : Reference). sees F (leads r)) (z .0) ∙ own-sees F (document, d .number .0) od) (ap (λ (u : Url). F .own (host, u .host .0)) (z .1) ∙ oh) (four _ refl)) b))
+      kept-stop F none-yet b (isForbidden method) _ (kept-stop F none-yet b (not (sameOrigin (urlOrigin url) (originOf d))) _
+      (L _ (kept-send F (afterStoring none-yet) (xhrSending d url method x r) (ap (λ (r : Reference). sees F (leads r)) (z .0) ∙ own-sees F (document, d .number .0) od) (ap (λ (u : Url). F .own (host, u .host .0)) (z .1) ∙ oh) (four _ refl)) b))
     where
       r : Reference
       r = Xhr (d .number) matching
@@ -135,7 +136,7 @@ module _ (F : Part) (b : Tables) (W : Whole F b) (w : WindowNumber) (d : Documen
       z : (xhrSending d url method x r .reference ≡ r) × (xhrSending d url method x r .url ≡ url)
       z = xhr-reference d url method x r
 
-  kept-command : (c : Command) → localCommand w c ≡ true → ((h : Host) → In h (commandHosts c) → F .own (host, h .0) ≡ true) → Keeps F nothing (command w d storing c) b
+  kept-command : (c : Command) → localCommand w c ≡ true → ((h : Host) → In h (commandHosts c) → F .own (host, h .0) ≡ true) → Keeps F none-yet (command w d storing c) b
   unfolding command
   kept-command Nothing e o = L _ (λ c. four _ refl) b
   kept-command (Href url target noreferrer) e o = kept-href url noreferrer target e (o (url .host) (inl refl))
@@ -151,19 +152,19 @@ module _ (F : Part) (b : Tables) (W : Whole F b) (w : WindowNumber) (d : Documen
 
 -- ALGORITHM 7.
 pub kept-script : (F : Part) (b : Tables) → Whole F b → (w : WindowNumber) (out : Output) (new : List Cookie) → length new ≤ 4 → localCommand w (out .command) ≡ true
-    → Seeds F (RunScript w out) b → Keeps F nothing (runScript w out new) b
+    → Seeds F (RunScript w out) b → Keeps F none-yet (runScript w out new) b
 unfolding runScript home hosts
 kept-script F b W w out new few lc S = (
   S .home-sees (window, w .0) refl,
-  kept-needs F nothing b NoWindow (observed (reached w) b) _ (λ top e.
+  kept-needs F none-yet b NoWindow (observed (reached w) b) _ (λ top e.
       let ow = reached-own F b W (RunScript w out) S w top refl e in (
         S .home-sees (window, w .0) refl,
-        kept-needs F nothing b NoDocument (observed (active w) b) _ (λ d s.
+        kept-needs F none-yet b NoDocument (observed (active w) b) _ (λ d s.
             let oh = S .hosts-own (d .location .host) (in-left (documentHost (observed (active w) b)) (commandHosts (out .command)) (d .location .host) (active-host d (observed (active w) b) s)) in
             let od = active-own F b W w ow d s in (
               own-sees F (host, d .location .host .0) oh,
               kept-command F b W w d (store d top (cookieMerge (observed (cookiesOf (d .location .host)) b) new (d .location .protocol)) out) ow od
-                  (λ p k. kept-store F nothing d top (cookieMerge (observed (cookiesOf (d .location .host)) b) new (d .location .protocol)) out p oh od (top-sees top e ow) (merged-few (observed (cookiesOf (d .location .host)) b) new (d .location .protocol) few) k)
+                  (λ p k. kept-store F none-yet d top (cookieMerge (observed (cookiesOf (d .location .host)) b) new (d .location .protocol)) out p oh od (top-sees top e ow) (merged-few (observed (cookiesOf (d .location .host)) b) new (d .location .protocol) few) k)
                   (out .command) lc (λ h i. S .hosts-own h (in-right (documentHost (observed (active w) b)) (commandHosts (out .command)) h i)),
             )),
       )),

@@ -1,23 +1,23 @@
 -- What a part must hold for a local step to keep to it: what the step stands by, its hosts, the waiting entry that it answers.
-use mathlib.Core.Path.{_≡_, refl, sym, _∙_, ap}
-use mathlib.Core.Logic.{_⊎_, inl, inr}
+use mathlib.Core.Path.{_≡_, sym, _∙_, ap}
+use mathlib.Core.Logic.{inl}
 use mathlib.Core.Bool.{Bool, true, _||_}
 use mathlib.Core.List.{List, [], _∷_, map}
 use mathlib.Core.Option.{Option, none, some}
-use Prim.Native.Nat.{ℕ}
-use borrow.Author.Tests.{eqb-true}
 use Rattle.sorted.specs.Table.{keep, In}
 use Rattle.sorted.proofs.Never.{never}
-use Rattle.sorted.proofs.Tests.{or-one}
 use Rattle.sorted.proofs.Member.{in-keep, find-in}
 use Rattle.tables.specs.Tables.{windows, documents, Tables}
 use Rattle.tables.specs.Labels.{Label, window, request, dns, key, document, host}
-use Rattle.tables.specs.Rows.{sameWindow, sameDocument, oneOf, windowOneOf}
+use Rattle.tables.specs.Rows.{oneOf, windowOneOf}
 use Rattle.wim.specs.Nouns.{WindowNumber, DocumentNumber, Host, Event, RunScript, Urlbar, Reload, GoForward, GoBack, CloseCorrupt, EncryptedAnswer, PlainAnswer, DnsResolved, Window, Document, Question, Waiting}
 use Rattle.wim.specs.Walks.{documentsOf, activeDocument, steps, isUnder, removal}
 use Rattle.wim.specs.Program.{reached, active, history, under, question, keyless, keyed, observed}
 use Rattle.wim.specs.LocalSteps.{topOf, home, hosts, documentHost}
 use Rattle.wim.proofs.Walks.{reached-top}
+use Rattle.invariant.proofs.Rooted.Gone.{in-history}
+use Rattle.invariant.proofs.Rooted.Tests.{one-in, window-in, in-image}
+use Rattle.invariant.proofs.Rooted.Removed.{numbers}
 use Rattle.either_order.proofs.Sight.{Even, document-even, under-part, document-part}
 use Rattle.either_order.proofs.Part.{Part, sees, level-even, Whole}
 use Rattle.either_order.proofs.Colour.{topOfLabel}
@@ -67,25 +67,6 @@ pub active-host : (d : Document) (o : Option Document) → o ≡ some d → In (
 active-host d none e = never (cc)
 active-host d (some x) e = let z : x ≡ d = cc in inl (ap (λ (y : Document). y .location .host) (sym z))
 
--- lists of numbers
-one-of-map : (l : List Document) (n : DocumentNumber) → oneOf n (map (λ (d : Document). d .number) l) ≡ true → (d : Document) × In d l × (n .0 ≡ d .number .0)
-one-of-map [] n e = never (cc)
-one-of-map (x ∷ l) n e = go (or-one (sameDocument n (x .number)) (oneOf n (map (λ (d : Document). d .number) l)) e) (one-of-map l n)
-  where
-    go : (sameDocument n (x .number) ≡ true) ⊎ (oneOf n (map (λ (d : Document). d .number) l) ≡ true) → (oneOf n (map (λ (d : Document). d .number) l) ≡ true → (d : Document) × In d l × (n .0 ≡ d .number .0))
-        → (d : Document) × ((d ≡ x) ⊎ In d l) × (n .0 ≡ d .number .0)
-    go (inl p) ih = (x, inl refl, eqb-true (n .0) (x .number .0) p)
-    go (inr p) ih = let z = ih p in (z .0, inr (z .1), z .2)
-
-window-of-map : (l : List Window) (n : WindowNumber) → windowOneOf n (map (λ (d : Window). d .number) l) ≡ true → (d : Window) × In d l × (n .0 ≡ d .number .0)
-window-of-map [] n e = never (cc)
-window-of-map (x ∷ l) n e = go (or-one (sameWindow n (x .number)) (windowOneOf n (map (λ (d : Window). d .number) l)) e) (window-of-map l n)
-  where
-    go : (sameWindow n (x .number) ≡ true) ⊎ (windowOneOf n (map (λ (d : Window). d .number) l) ≡ true) → (windowOneOf n (map (λ (d : Window). d .number) l) ≡ true → (d : Window) × In d l × (n .0 ≡ d .number .0))
-        → (d : Window) × ((d ≡ x) ⊎ In d l) × (n .0 ≡ d .number .0)
-    go (inl p) ih = (x, inl refl, eqb-true (n .0) (x .number .0) p)
-    go (inr p) ih = let z = ih p in (z .0, inr (z .1), z .2)
-
 module _ (F : Part) (b : Tables) (W : Whole F b) where
   even : Even (F .own) b
   even = level-even (F .own) b (W .owns)
@@ -97,10 +78,10 @@ module _ (F : Part) (b : Tables) (W : Whole F b) where
 
   -- the documents of an owned window are owned
   pub history-own : (w : WindowNumber) → F .own (window, w .0) ≡ true → (d : Document) → In d (observed (history w) b) → F .own (document, d .number .0) ≡ true
-  unfolding observed documentsOf
+  unfolding observed
   history-own w o d i =
-      let z = in-keep (λ (d : Document). sameWindow (d .window) w) (b documents) d i in
-      document-even (F .own) b (level-even (F .own) b (W .owns)) d (z .0) ∙ (ap (λ (n : ℕ). F .own (window, n)) (eqb-true (d .window .0) (w .0) (z .1)) ∙ o)
+      let z = in-history (b documents) w d i in
+      document-even (F .own) b (level-even (F .own) b (W .owns)) d (z .0) ∙ (ap (λ (v : WindowNumber). F .own (window, v .0)) (z .1) ∙ o)
 
   pub active-own : (w : WindowNumber) → F .own (window, w .0) ≡ true → (d : Document) → observed (active w) b ≡ some d → F .own (document, d .number .0) ≡ true
   unfolding observed activeDocument
@@ -109,7 +90,7 @@ module _ (F : Part) (b : Tables) (W : Whole F b) where
   -- some of the documents of an owned window
   pub some-own : (w : WindowNumber) (l : List Document) → F .own (window, w .0) ≡ true → ((d : Document) → In d l → In d (observed (history w) b))
       → (n : DocumentNumber) → oneOf n (map (λ (d : Document). d .number) l) ≡ true → F .own (document, n .0) ≡ true
-  some-own w l o h n e = let z = one-of-map l n e in ap (λ (k : ℕ). F .own (document, k)) (z .2) ∙ history-own w o (z .0) (h (z .0) (z .1))
+  some-own w l o h n e = let z = in-image (λ (d : Document). d .number) l n (one-in n (numbers l) e) in ap (λ (k : DocumentNumber). F .own (document, k .0)) (z .2) ∙ history-own w o (z .0) (h (z .0) (z .1))
 
   -- what goes with owned documents is owned
   pub under-own : (gone : List DocumentNumber) → ((n : DocumentNumber) → oneOf n gone ≡ true → F .own (document, n .0) ≡ true) → Removable F (observed (under gone) b)
@@ -121,12 +102,13 @@ module _ (F : Part) (b : Tables) (W : Whole F b) where
 
       ws : (w : WindowNumber) → windowOneOf w (map (λ (r : Window). r .number) (keep (λ (r : Window). isUnder steps (b windows) (b documents) gone (r .number)) (b windows))) ≡ true → F .own (window, w .0) ≡ true
       ws w e =
-          let z = window-of-map (keep (λ (r : Window). isUnder steps (b windows) (b documents) gone (r .number)) (b windows)) w e in
+          let l : List Window = keep (λ (r : Window). isUnder steps (b windows) (b documents) gone (r .number)) (b windows) in
+          let z = in-image (λ (r : Window). r .number) l w (window-in w (map (λ (r : Window). r .number) l) e) in
           let y = in-keep (λ (r : Window). isUnder steps (b windows) (b documents) gone (r .number)) (b windows) (z .0) (z .1) in
-          ap (λ (k : ℕ). F .own (window, k)) (z .2) ∙ under-part (F .own) b even steps gone h (z .0 .number) (y .1)
+          ap (λ (k : WindowNumber). F .own (window, k .0)) (z .2) ∙ under-part (F .own) b even steps gone h (z .0 .number) (y .1)
 
       ds : (n : DocumentNumber) → oneOf n (map (λ (d : Document). d .number) (keep q (b documents))) ≡ true → F .own (document, n .0) ≡ true
       ds n e =
-          let z = one-of-map (keep q (b documents)) n e in
+          let z = in-image (λ (d : Document). d .number) (keep q (b documents)) n (one-in n (numbers (keep q (b documents))) e) in
           let y = in-keep q (b documents) (z .0) (z .1) in
-          ap (λ (k : ℕ). F .own (document, k)) (z .2) ∙ (document-even (F .own) b even (z .0) (y .0) ∙ document-part (F .own) b even gone h (z .0) (y .0) (y .1))
+          ap (λ (k : DocumentNumber). F .own (document, k .0)) (z .2) ∙ (document-even (F .own) b even (z .0) (y .0) ∙ document-part (F .own) b even gone h (z .0) (y .0) (y .1))

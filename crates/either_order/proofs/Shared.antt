@@ -6,36 +6,31 @@ use mathlib.Core.List.{List, [], _∷_, _++_, map}
 use mathlib.Core.Option.{Option, none, some}
 use Prim.Native.Nat.{ℕ, _+_, _≤_}
 use native.Mathlib.Omega.{arith}
-use borrow.Author.Tests.{leb-true, eqb-true}
-use lib.Dec.{leb, eqb}
+use borrow.Author.Tests.{eqb-true, not-false}
+use lib.Dec.{eqb}
 use lib.ListN.{length}
 use Rattle.sorted.specs.Table.{keep, In, All, put, drop}
 use Rattle.sorted.proofs.Never.{never}
 use Rattle.sorted.proofs.Tests.{and-left}
-use Rattle.sorted.proofs.Member.{length-keep}
-use Rattle.sorted.proofs.Edits.{adds, adds-puts}
-use Rattle.tables.specs.Tables.{Table, windows, documents, cookies, localStorage, sessionStorage, inputs, pendingDNS, pendingRequests, sts, Row, Key, Tables, isSecure}
-use Rattle.tables.specs.Labels.{Label, window, request, document, host, leads, every, sealLabel}
+use Rattle.tables.specs.Tables.{Table, windows, documents, cookies, localStorage, sessionStorage, inputs, pendingDNS, pendingRequests, sts, Tables, isSecure}
+use Rattle.tables.specs.Labels.{Label, window, request, document, host, leads, sealLabel}
 use Rattle.tables.specs.Rows.{sameWindow, sameDocument, oneOf, windowOneOf, originOf, sameReference, sameMatching, withActive, withState, changing, settingActive}
-use Rattle.tables.proofs.Update.{every-one}
-use Rattle.wim.specs.Nouns.{WindowNumber, DocumentNumber, Host, Protocol, Cookie, HostCookie, Reference, Req, Xhr, Cancelled, Bare, Labelled, Sending, Stored, Output, Origin, Window, Document, Input, Question, Waiting, Answer, Missing, ScriptState}
+use Rattle.wim.specs.Nouns.{WindowNumber, DocumentNumber, Host, Cookie, Reference, Req, Xhr, Cancelled, Bare, Labelled, Sending, Stored, Output, Origin, Window, Document, Input, Question, Waiting, Answer, Missing, ScriptState}
 use Rattle.wim.specs.Walks.{Removal, activeAmong}
-use Rattle.wim.specs.Cookies.{named, latest, guarded, allowed, badPrefix, cookieMerge, rowFor, storeAll, addCookies}
+use Rattle.wim.specs.Cookies.{badPrefix, rowFor, storeAll, addCookies}
 use Rattle.wim.specs.Program.{Program, done, needs, stopIf, refuseUnless}
 use Rattle.wim.specs.Sending.{cancels, cancelNav, send}
 use Rattle.wim.specs.History.{placeOf, moved}
 use Rattle.wim.specs.Script.{storeLocal, storeSession, store, remove}
 use Rattle.wim.specs.Response.{strictHost, actOnHeaders}
+use Rattle.four_rows.proofs.Adds.{on, four}
+use Rattle.four_rows.proofs.Programs.{stored-few, added-few, local-few, session-few, strict-few, afterStoring, acting}
 use Rattle.either_order.proofs.Part.{Part, sees, own-sees, Ok, Touched, Same, Fixes}
-use Rattle.either_order.proofs.Keeps.{on, Keeps}
+use Rattle.either_order.proofs.Keeps.{Keeps}
 
 -- a program that keeps to the part in whatever browser it runs
 abbrev pub Always : Part → (Table → ℕ) → Program → Type 0
 Always F n p = (b : Tables) → Keeps F n p b
-
--- a closed budget is checked by computing
-pub four : (n : Table → ℕ) → every (λ t. leb (n t) 4) ≡ true → (t : Table) → n t ≤ 4
-four n e t = leb-true (n t) 4 (every-one (λ t. leb (n t) 4) e t)
 
 -- WHERE A PROGRAM MAY REFUSE.
 module _ (F : Part) (n : Table → ℕ) (b : Tables) where
@@ -60,25 +55,6 @@ module _ (F : Part) where
   pub cookies-ok : (h : Host) (cs : List Cookie) → F .own (host, h .0) ≡ true → All (Ok F cookies) (storeAll h cs)
   cookies-ok h cs o = all-map (Ok F cookies) (λ (c : Cookie). put (rowFor h c)) cs (λ c. (o, tt, tt))
 
-pub cookies-few : (h : Host) (cs : List Cookie) → length cs ≤ 4 → adds (storeAll h cs) ≤ 4
-cookies-few h cs l = let z = adds-puts (Key cookies) (rowFor h) cs in omega arith
-
-length-latest : (cs : List Cookie) → length (latest cs) ≤ length cs
-length-latest [] = omega arith
-length-latest (c ∷ cs) = go (named (c .name) cs) (length-latest cs)
-  where
-    go : (x : Bool) → length (latest cs) ≤ length cs → length (cond x (latest cs) (c ∷ latest cs)) ≤ length (c ∷ cs)
-    go true h = omega arith
-    go false h = omega arith
-
-pub merged-few : (old : List HostCookie) (new : List Cookie) (p : Protocol) → length new ≤ 4 → length (cookieMerge old new p) ≤ 4
-unfolding cookieMerge
-merged-few old new p l =
-    let x = length-keep (allowed p) new in
-    let y = length-latest (keep (allowed p) new) in
-    let z = length-keep (λ (c : Cookie). not (guarded old c)) (latest (keep (allowed p) new)) in
-    omega arith
-
 -- ALGORITHM 4.
 pub kept-send : (F : Part) (n : Table → ℕ) (o : Sending) → sees F (leads (o .reference)) ≡ true → F .own (host, o .url .host .0) ≡ true → ((t : Table) → n t + on pendingDNS 1 t ≤ 4) → Always F n (send o)
 unfolding send
@@ -96,13 +72,9 @@ same-leads (Req v) (Xhr d m) e = never (cc)
 same-leads (Xhr d m) (Req w) e = never (cc)
 same-leads (Xhr d m) (Xhr x k) e = ap (λ (n : ℕ). (document, n)) (sym (eqb-true (d .0) (x .0) (and-left (sameDocument d x) (sameMatching m k) e)))
 
-pub not-is-false : (c : Bool) → not c ≡ false → c ≡ true
-not-is-false true e = refl
-not-is-false false e = never (cc)
-
 cancelled-own : (F : Part) (c : Cancelled) → Cancellable F c → (r : Reference) → not (cancels c r) ≡ false → F .own (leads r) ≡ true
 cancelled-own F (Bare w) h r e = never (cc)
-cancelled-own F (Labelled s) h r e = ap (F .own) (same-leads s r (not-is-false (sameReference s r) e)) ∙ h
+cancelled-own F (Labelled s) h r e = ap (F .own) (same-leads s r (not-false (sameReference s r) e)) ∙ h
 
 pub kept-cancel : (F : Part) (n : Table → ℕ) (c : Cancelled) (p : Program) → Cancellable F c → Always F (λ u. (n u + on pendingRequests 0 u) + on pendingDNS 0 u) p → Always F n (cancelNav c p)
 kept-cancel F n c p h k b =
@@ -141,9 +113,6 @@ module _ (F : Part) where
       go false e = (alike d d refl refl refl, inl refl)
 
 -- ALGORITHM 7, lines 11 to 14.
-abbrev pub afterStoring : (Table → ℕ) → Table → ℕ
-afterStoring n u = ((n u + on cookies 4 u) + on localStorage 1 u) + on sessionStorage 1 u
-
 module _ (F : Part) where
   local-ok : (o : Origin) (v : Stored) → F .own (host, o .host .0) ≡ true → All (Ok F localStorage) (storeLocal o v)
   local-ok o v h = go (eqb (v .0) 0)
@@ -159,27 +128,13 @@ module _ (F : Part) where
       go true = (h, tt)
       go false = ((h, tt, (s, tt)), tt)
 
-  local-few : (o : Origin) (v : Stored) → adds (storeLocal o v) ≤ 1
-  local-few o v = go (eqb (v .0) 0)
-    where
-      go : (c : Bool) → adds {R = Row localStorage} {K = Key localStorage} (cond c (drop (o .host .0, isSecure (o .protocol)) ∷ []) (put (record { origin = o; value = v }) ∷ [])) ≤ 1
-      go true = omega arith
-      go false = omega arith
-
-  session-few : (o : Origin) (top : WindowNumber) (v : Stored) → adds (storeSession o top v) ≤ 1
-  session-few o top v = go (eqb (v .0) 0)
-    where
-      go : (c : Bool) → adds {R = Row sessionStorage} {K = Key sessionStorage} (cond c (drop (o .host .0, (isSecure (o .protocol), top .0)) ∷ []) (put (record { origin = o; top = top; value = v }) ∷ [])) ≤ 1
-      go true = omega arith
-      go false = omega arith
-
   pub kept-store : (n : Table → ℕ) (d : Document) (top : WindowNumber) (merged : List Cookie) (out : Output) (p : Program)
       → F .own (host, d .location .host .0) ≡ true → F .own (document, d .number .0) ≡ true → sees F (window, top .0) ≡ true → length merged ≤ 4
       → Always F (afterStoring n) p → Always F n (store d top merged out p)
   kept-store n d top merged out p oh od st few k b = (
     cookies-ok F (d .location .host) merged oh,
     4,
-    cookies-few (d .location .host) merged few,
+    stored-few (d .location .host) merged few,
     (
       local-ok (originOf d) (out .local) oh,
       1,
@@ -194,9 +149,6 @@ module _ (F : Part) where
   )
 
 -- ALGORITHM 8, lines 2 to 6.
-abbrev pub acting : (Table → ℕ) → Table → ℕ
-acting n u = ((n u + on pendingRequests 0 u) + on cookies 4 u) + on sts 1 u
-
 module _ (F : Part) where
   strict-ok : (w : Waiting) (a : Answer) → F .own (host, w .request .host .0) ≡ true → All (Ok F sts) (strictHost w a)
   strict-ok w a h = go (a .strict && isSecure (w .url .protocol))
@@ -205,23 +157,15 @@ module _ (F : Part) where
       go true = ((h, tt, tt), tt)
       go false = tt
 
-  strict-few : (w : Waiting) (a : Answer) → adds (strictHost w a) ≤ 1
-  strict-few w a = go (a .strict && isSecure (w .url .protocol))
-    where
-      go : (c : Bool) → adds {R = Row sts} {K = Key sts} (cond c (put (record { host = w .request .host }) ∷ []) []) ≤ 1
-      go true = omega arith
-      go false = omega arith
-
   pub kept-headers : (n : Table → ℕ) (w : Waiting) (a : Answer) (new : List Cookie) (p : Program)
       → F .own (request, w .request .number .0) ≡ true → F .own (host, w .request .host .0) ≡ true → length new ≤ 4 → Always F (acting n) p → Always F n (actOnHeaders w a new p)
   unfolding addCookies
   kept-headers n w a new p orq oh few k b =
-      let good = keep (λ (c : Cookie). not (badPrefix (w .url .protocol) c)) new in
-      let fewer : length good ≤ 4 = (let z = length-keep (λ (c : Cookie). not (badPrefix (w .url .protocol) c)) new in omega arith) in (
+      let good = keep (λ (c : Cookie). not (badPrefix (w .url .protocol) c)) new in (
         (orq, tt),
         0,
         (omega arith),
-        (cookies-ok F (w .request .host) good oh, 4, cookies-few (w .request .host) good fewer, (strict-ok w a oh, 1, strict-few w a, k _)),
+        (cookies-ok F (w .request .host) good oh, 4, added-few (w .request .host) new (w .url .protocol) few, (strict-ok w a oh, 1, strict-few w a, k _)),
       )
 
 -- WHAT GOES WITH DOCUMENTS.
@@ -237,13 +181,13 @@ kept-remove F n gone p h k b =
     ((gone-windows, tt), 0, (omega arith), ((gone-documents, tt), 0, (omega arith), ((gone-inputs, tt), 0, (omega arith), k _)))
   where
     gone-windows : (r : Window) → not (windowOneOf (r .number) (gone .windows)) ≡ false → Touched F windows r
-    gone-windows r e = ((window, r .number .0), inl refl, h .windows-own (r .number) (not-is-false (windowOneOf (r .number) (gone .windows)) e))
+    gone-windows r e = ((window, r .number .0), inl refl, h .windows-own (r .number) (not-false (windowOneOf (r .number) (gone .windows)) e))
 
     gone-documents : (d : Document) → not (oneOf (d .number) (gone .documents)) ≡ false → Touched F documents d
-    gone-documents d e = ((document, d .number .0), inr (inl refl), h .documents-own (d .number) (not-is-false (oneOf (d .number) (gone .documents)) e))
+    gone-documents d e = ((document, d .number .0), inr (inl refl), h .documents-own (d .number) (not-false (oneOf (d .number) (gone .documents)) e))
 
     gone-inputs : (i : Input) → not (oneOf (i .document) (gone .documents)) ≡ false → Touched F inputs i
-    gone-inputs i e = ((document, i .document .0), inl refl, h .documents-own (i .document) (not-is-false (oneOf (i .document) (gone .documents)) e))
+    gone-inputs i e = ((document, i .document .0), inl refl, h .documents-own (i .document) (not-false (oneOf (i .document) (gone .documents)) e))
 
 -- ALGORITHMS 5 AND 6, for a trigger.
 pub kept-moved : (F : Part) (w : WindowNumber) (ds : List Document) (o : Option Document) (b : Tables) → F .own (window, w .0) ≡ true → Keeps F (λ t. 0) (moved w (λ p. p) ds o) b

@@ -23,6 +23,7 @@ use Rattle.wim.specs.Navigable.{mayNavigate}
 use Rattle.wim.specs.Program.{Query, reached, topLevel, active, history, navigated, ofOrigin, listening, arrived, under, strict, cookiesOf, cookiesFor, question, keyless, keyed, isTop, when, withOrigin, listens, observed}
 use Rattle.wim.proofs.Numbers.{row-numbered, found-document}
 use Rattle.tables.proofs.Update.{linear}
+use Rattle.invariant.proofs.Rooted.Lines.{held-row}
 
 -- P is the same on all labels that a row ties together
 abbrev pub Even : (Label → Bool) → Tables → Type 0
@@ -49,29 +50,13 @@ module _ (P : Label → Bool) (b : Tables) (E : Even P b) where
   -- the document above a window is of the same part
   pub above-even : (w : WindowNumber) (d : Document) → above (b windows) (b documents) w ≡ heldBy d
       → In d (b documents) × (P (window, w .0) ≡ P (window, d .window .0)) × (P (document, d .number .0) ≡ P (window, d .window .0))
-  unfolding above
-  above-even w d e = row (windowNumbered (b windows) w) refl e
-    where
-      row : (o : Option Window) → windowNumbered (b windows) w ≡ o → aboveRow (b documents) o ≡ heldBy d
-          → In d (b documents) × (P (window, w .0) ≡ P (window, d .window .0)) × (P (document, d .number .0) ≡ P (window, d .window .0))
-      row none f g = never (cc)
-      row (some r) f g = par (r .parent) refl g
-        where
-          par : (p : Parent) → r .parent ≡ p → aboveParent (b documents) p ≡ heldBy d
-              → In d (b documents) × (P (window, w .0) ≡ P (window, d .window .0)) × (P (document, d .number .0) ≡ P (window, d .window .0))
-          par Top h k = never (cc)
-          par (Under n) h k = doc (documentNumbered (b documents) n) refl k
-            where
-              doc : (o : Option Document) → documentNumbered (b documents) n ≡ o → aboveDocument o ≡ heldBy d
-                  → In d (b documents) × (P (window, w .0) ≡ P (window, d .window .0)) × (P (document, d .number .0) ≡ P (window, d .window .0))
-              doc none m k = never (cc)
-              doc (some x) m k =
-                  let xd : x ≡ d = cc in
-                  let fd = found-document (b documents) n d (m ∙ ap some xd) in
-                  let fr = row-numbered (b windows) w r f in
-                  let e₁ : P (document, d .number .0) ≡ P (window, d .window .0) = document-even d (fd .0) in
-                  let e₂ : P (document, n .0) ≡ P (window, r .number .0) = child-even r n (fr .0) h in
-                  (fd .0, ap (λ (v : WindowNumber). P (window, v .0)) (sym (fr .1)) ∙ (sym e₂ ∙ (ap (λ (v : DocumentNumber). P (document, v .0)) (sym (fd .1)) ∙ e₁)), e₁)
+  above-even w d e =
+      let h = held-row (b windows) (b documents) w d e in
+      let fr = row-numbered (b windows) w (h .0) (h .2) in
+      let fd = found-document (b documents) (h .1) d (h .4) in
+      let e₁ : P (document, d .number .0) ≡ P (window, d .window .0) = document-even d (fd .0) in
+      let e₂ : P (document, h .1 .0) ≡ P (window, h .0 .number .0) = child-even (h .0) (h .1) (fr .0) (h .3) in
+      (fd .0, ap (λ (v : WindowNumber). P (window, v .0)) (sym (fr .1)) ∙ (sym e₂ ∙ (ap (λ (v : DocumentNumber). P (document, v .0)) (sym (fd .1)) ∙ e₁)), e₁)
 
   -- what stands above a window of the part is seen in the part
   pub above-local : (w : WindowNumber) → P (window, w .0) ≡ true → above (restrict P b windows) (restrict P b documents) w ≡ above (b windows) (b documents) w

@@ -18,11 +18,12 @@ use Rattle.wim.specs.Main.{cookiesIn, program}
 use Rattle.wim.specs.Step.{freshLabels}
 use Rattle.wim.specs.LocalSteps.{names, home}
 use Rattle.invariant.proofs.Numbered.Fresh.{Absent}
+use Rattle.invariant.proofs.Rooted.Tests.{fails}
+use Rattle.four_rows.proofs.Programs.{none-yet}
 use Rattle.either_order.specs.Statement.{LocalStep}
 use Rattle.either_order.proofs.Part.{Part, Ok, Same, pulls, pulled-refs, Whole, Moved}
 use Rattle.either_order.proofs.Keeps.{moves}
-use Rattle.either_order.proofs.Commute.{nothing}
-use Rattle.either_order.proofs.Listed.{is-false, same-label, label-same, tie-mentioned, ref-mentioned}
+use Rattle.either_order.proofs.Listed.{same-label, label-same, tie-mentioned, ref-mentioned}
 use Rattle.either_order.proofs.Seeds.{Seeds, sought, found}
 use Rattle.either_order.proofs.Kept.{kept}
 use Rattle.either_order.proofs.Known.{home-named, found-stands, sought-named}
@@ -32,7 +33,7 @@ abbrev but : Label → Part
 but l = record { own = λ a. not (sameLabel a l); other = λ a. sameLabel a l; apart = λ a e. not-true (sameLabel a l) e }
 
 not-other : (a l : Label) → (a ≡ l → ⊥) → sameLabel a l ≡ false
-not-other a l h = is-false (sameLabel a l) (λ e. h (same-label a l e))
+not-other a l h = fails (sameLabel a l) (λ e. h (same-label a l e))
 
 mine : (a l : Label) → (a ≡ l → ⊥) → not (sameLabel a l) ≡ true
 mine a l h = ap not (not-other a l h)
@@ -81,7 +82,7 @@ module _ (b : Tables) (s : (t : Table) → Sorted (keyOf t) (cmp t) (b t)) (l : 
     where
       after : Moved (but l) b c
       after =
-          moves (but l) (program (j .event) (cookiesIn (j .cookies))) nothing b (freshLabels (j .fresh)) c m (kept (but l) b whole (j .event) (cookiesIn (j .cookies)) (S .kind) (S .cookies) (seeds (j .event) unnamed))
+          moves (but l) (program (j .event) (cookiesIn (j .cookies))) none-yet b (freshLabels (j .fresh)) c m (kept (but l) b whole (j .event) (cookiesIn (j .cookies)) (S .kind) (S .cookies) (seeds (j .event) unnamed))
           (λ a k. mine a l (λ z. unbrought (subst (λ (v : Label). In v (freshLabels (j .fresh))) z k))) whole e .0
 
       go : (t : Table) (r : Row t) → ((x : Row t) × In x (b t) × Same t x r) ⊎ Ok (but l) t (put r) → In l (mentions t r) → ⊥

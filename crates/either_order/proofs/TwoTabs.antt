@@ -39,8 +39,6 @@ use Rattle.wim.specs.Step
 use Rattle.wim.specs.Walks
 use Rattle.wim.specs.Wire
 use Rattle.sorted.specs.Table.{In}
-use Rattle.sorted.proofs.Never.{never}
-use Rattle.sorted.proofs.Tests.{or-left}
 use Rattle.tables.specs.Tables.{Table, cap}
 use Rattle.tables.specs.Labels.{Label, among, every}
 use Rattle.tables.proofs.Update.{every-one}
@@ -52,9 +50,10 @@ use Rattle.wim.specs.Wire.{rehearse}
 use Rattle.wim.specs.Run.{performed, after}
 use Rattle.wim.specs.Points.Compared.{prints}
 use Rattle.wim.specs.Points.Paper.{zeros, leaves, leavesAll}
+use Rattle.invariant.proofs.Numbered.Fresh.{in-among}
+use Rattle.invariant.proofs.Rooted.Tests.{or-neither, not-both}
 use Rattle.either_order.specs.Statement.{Made, empty, next, Apart}
 use Rattle.either_order.specs.TwoTabs.{setUp, setUpLines, here, following, loading, follow, load, documentsShown, questionsShown, inTheEnd, followsFirst, loadsFirst}
-use Rattle.either_order.proofs.Listed.{in-among}
 use Rattle.either_order.proofs.OnTexts.{either-order-on-texts}
 
 -- BOTH ORDERS COMPUTED.
@@ -76,12 +75,8 @@ meet [] ns = false
 meet (m ∷ ms) ns = among m ns || meet ms ns
 
 never-both : (ms ns : List Label) → meet ms ns ≡ false → (l : Label) → In l ms → In l ns → ⊥
-never-both (m ∷ ms) ns e l (inl p) j = let z : among m ns ≡ true = in-among m ns (subst (λ (v : Label). In v ns) p j) in let y : (among m ns || meet ms ns) ≡ true = or-left (among m ns) (meet ms ns) z in never (cc)
-never-both (m ∷ ms) ns e l (inr i) j = never-both ms ns (rest (among m ns) e) l i j
-  where
-    rest : (c : Bool) → (c || meet ms ns) ≡ false → meet ms ns ≡ false
-    rest true h = never (cc)
-    rest false h = h
+never-both (m ∷ ms) ns e l (inl p) j = not-both (in-among m ns (subst (λ (v : Label). In v ns) p j)) (or-neither (among m ns) (meet ms ns) e .0)
+never-both (m ∷ ms) ns e l (inr i) j = never-both ms ns (or-neither (among m ns) (meet ms ns) e .1) l i j
 
 -- THE PREMISES ARE MET.
 record Premises : Type 0 where

@@ -51,11 +51,11 @@ data Short (b : Tables) (n : Table → ℕ) : Outcome → Type 0 where
   turned-away : (r : Refusal) → isFull r ≡ false → Short b n (refused r)
   grown : (c : Tables) (m : Option Message) → ((t : Table) → length (c t) + n t ≤ length (b t) + 4) → Short b n (made c m)
 
-longer : (t : Table) (es : Edits t) (b : Tables) (m : ℕ) → adds es ≤ m → (u : Table) → length (apply t es b u) ≤ on t m u + length (b u)
+pub longer : (t : Table) (es : Edits t) (b : Tables) (m : ℕ) → adds es ≤ m → (u : Table) → length (apply t es b u) ≤ on t m u + length (b u)
 longer t es b m h = update-one (λ u l. length l ≤ on t m u + length (b u)) t (changed t es) b (λ u. omega arith)
     (let v = length-acts (keyOf t) (cmp t) es (b t) in let e : on t m t ≡ m = ap (λ (c : Bool). cond c m 0) (eq-eqb (index t) (index t) refl) in omega arith)
 
-as-long : (t : Table) (g : Row t → Row t) (b : Tables) (u : Table) → length (update t (map g) b u) ≡ length (b u)
+pub as-long : (t : Table) (g : Row t → Row t) (b : Tables) (u : Table) → length (update t (map g) b u) ≡ length (b u)
 as-long t g b = update-one (λ u l. length l ≡ length (b u)) t (map g) b (λ u. refl) (length-map g (b t))
 
 from : (a b : Tables) (k n : Table → ℕ) {o : Outcome} → ((t : Table) → length (a t) + n t ≤ length (b t) + k t) → Short a k o → Short b n o

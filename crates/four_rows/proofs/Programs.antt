@@ -38,7 +38,7 @@ module _ (n : Table → ℕ) where
   after-stop false p h = h
 
 -- COOKIES.
-stored-few : (h : Host) (cs : List Cookie) → length cs ≤ 4 → adds (storeAll h cs) ≤ 4
+pub stored-few : (h : Host) (cs : List Cookie) → length cs ≤ 4 → adds (storeAll h cs) ≤ 4
 stored-few h cs l = let z = adds-puts (Key cookies) (rowFor h) cs in omega arith
 
 length-latest : (cs : List Cookie) → length (latest cs) ≤ length cs
@@ -49,7 +49,7 @@ length-latest (c ∷ cs) = go (named (c .name) cs) (length-latest cs)
     go true h = omega arith
     go false h = omega arith
 
-merged-few : (old : List HostCookie) (new : List Cookie) (p : Protocol) → length new ≤ 4 → length (cookieMerge old new p) ≤ 4
+pub merged-few : (old : List HostCookie) (new : List Cookie) (p : Protocol) → length new ≤ 4 → length (cookieMerge old new p) ≤ 4
 unfolding cookieMerge
 merged-few old new p h =
     let x = length-keep (allowed p) new in
@@ -57,25 +57,25 @@ merged-few old new p h =
     let z = length-keep (λ (c : Cookie). not (guarded old c)) (latest (keep (allowed p) new)) in
     omega arith
 
-added-few : (h : Host) (cs : List Cookie) (p : Protocol) → length cs ≤ 4 → adds (addCookies h cs p) ≤ 4
+pub added-few : (h : Host) (cs : List Cookie) (p : Protocol) → length cs ≤ 4 → adds (addCookies h cs p) ≤ 4
 unfolding addCookies
 added-few h cs p l = let x = length-keep (λ (c : Cookie). not (badPrefix p c)) cs in stored-few h (keep (λ (c : Cookie). not (badPrefix p c)) cs) (omega arith)
 
-local-few : (o : Origin) (v : Stored) → adds (storeLocal o v) ≤ 1
+pub local-few : (o : Origin) (v : Stored) → adds (storeLocal o v) ≤ 1
 local-few o v = go (eqb (v .0) 0)
   where
     go : (c : Bool) → adds {R = Row localStorage} {K = Key localStorage} (cond c (drop (o .host .0, isSecure (o .protocol)) ∷ []) (put (record { origin = o; value = v }) ∷ [])) ≤ 1
     go true = omega arith
     go false = omega arith
 
-session-few : (o : Origin) (top : WindowNumber) (v : Stored) → adds (storeSession o top v) ≤ 1
+pub session-few : (o : Origin) (top : WindowNumber) (v : Stored) → adds (storeSession o top v) ≤ 1
 session-few o top v = go (eqb (v .0) 0)
   where
     go : (c : Bool) → adds {R = Row sessionStorage} {K = Key sessionStorage} (cond c (drop (o .host .0, (isSecure (o .protocol), top .0)) ∷ []) (put (record { origin = o; top = top; value = v }) ∷ [])) ≤ 1
     go true = omega arith
     go false = omega arith
 
-strict-few : (w : Waiting) (a : Answer) → adds (strictHost w a) ≤ 1
+pub strict-few : (w : Waiting) (a : Answer) → adds (strictHost w a) ≤ 1
 strict-few w a = go (a .strict) (isSecure (w .url .protocol))
   where
     go : (x y : Bool) → adds {R = Row sts} {K = Key sts} (cond (x && y) (put (record { host = w .request .host }) ∷ []) []) ≤ 1
@@ -88,19 +88,19 @@ adds-send : (n : Table → ℕ) (o : Sending) → ((t : Table) → n t + on pend
 unfolding send
 adds-send n o h = λ sts chosen q x. (1, omega arith, h)
 
-abbrev afterStoring : (Table → ℕ) → Table → ℕ
+abbrev pub afterStoring : (Table → ℕ) → Table → ℕ
 afterStoring n u = ((n u + on cookies 4 u) + on localStorage 1 u) + on sessionStorage 1 u
 
 adds-store : (n : Table → ℕ) (d : Document) (top : WindowNumber) (merged : List Cookie) (out : Output) (p : Program) → length merged ≤ 4 → Adds (afterStoring n) p → Adds n (store d top merged out p)
 adds-store n d top merged out p l h = (4, stored-few (d .location .host) merged l, (1, local-few (originOf d) (out .local), (1, session-few (originOf d) top (out .session), h)))
 
-abbrev acting : (Table → ℕ) → Table → ℕ
+abbrev pub acting : (Table → ℕ) → Table → ℕ
 acting n u = ((n u + on pendingRequests 0 u) + on cookies 4 u) + on sts 1 u
 
 adds-headers : (n : Table → ℕ) (w : Waiting) (a : Answer) (new : List Cookie) (p : Program) → length new ≤ 4 → Adds (acting n) p → Adds n (actOnHeaders w a new p)
 adds-headers n w a new p l h = (0, omega arith, (4, added-few (w .request .host) new (w .url .protocol) l, (1, strict-few w a, h)))
 
-abbrev none-yet : Table → ℕ
+abbrev pub none-yet : Table → ℕ
 none-yet t = 0
 
 -- WHAT A STEP STORES before it goes on, a trigger nothing: `storing`, which leaves the budget `n`.

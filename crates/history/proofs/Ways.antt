@@ -4,16 +4,27 @@ use mathlib.Core.Bool.{Bool, true, false}
 use mathlib.Core.List.{List, []}
 use mathlib.Core.Option.{Option, none, some}
 use Prim.Native.Nat.{ℕ}
+use Rattle.types.specs.declared.Fresh.{Fresh}
 use Rattle.types.specs.declared.WindowNumber.{WindowNumber}
 use Rattle.types.specs.declared.refusals.Missing.the-variants.{NoWindow, NoDocument}
-use Rattle.types.specs.declared.refusals.Refusal.the-variants.{Lacking, Stopped}
+use Rattle.types.specs.declared.refusals.Refusal.the-variants.{Lacking, Stopped, NotFresh}
 use Rattle.types.specs.declared.rows.Document.{Document}
 use Rattle.sorted.specs.Table.{looked}
-use Rattle.tables.specs.Tables.{documents, Tables}
+use Rattle.tables.specs.Tables.{Table, documents, Tables}
 use Rattle.tables.specs.Labels.{Label}
 use Rattle.wim.specs.Walks.{documentsOf, activeAmong}
-use Rattle.wim.specs.Program.{Program, ask, observed, reached, active, needs, Outcome, refused, made, run, _>>=_, _>>_}
+use Rattle.wim.specs.Program.{Program, ask, observed, reached, active, needs, Outcome, refused, made, run, _>>=_}
 use Rattle.wim.specs.History.{neighbour, moved, navBack, navForward}
+use Rattle.wim.specs.Step.{freshLabels}
+use Rattle.browser.specs.View.{view}
+use Rattle.stepping.specs.declared.Performed.{Performed}
+use Rattle.stepping.specs.Brings.{Brings}
+use Rattle.stepping.specs.Gives.{Refuses, Silent}
+use Rattle.stepping.specs.Holds.{Carries}
+use Rattle.stepping.specs.Performs.{Performs}
+use Rattle.stepping.specs.Wanted.{Unwanted}
+use Rattle.stepping.proofs.Carry.{then-roomy}
+use Rattle.stepping.proofs.Ways.{refuses, unfresh, silently, performs-as}
 use Rattle.sending.proofs.Cancelling.{bare-cancels-nothing}
 use Rattle.history.specs.declared.Display.{Display}
 use Rattle.history.specs.declared.Display.the-variants.{Lacks, Shows}
@@ -82,3 +93,19 @@ module _ (storing : Program → Program) (w : WindowNumber) where
 pub ran : (w : WindowNumber) (from to : ℕ) (b : Tables) → run (turn w from to) b [] ≡ made (turned w from to b) none
 unfolding run
 ran w from to b = ap (λ (c : Tables). made c none) (bare-cancels-nothing w (turned w from to b))
+
+-- A STEP that comes to NAVBACK or NAVFORWARD, and stores something before the history is turned.
+module _ (p : Program) (storing : Program → Program) (w : WindowNumber) (q : Towards) (f : Fresh) {m : List ℕ} {r : Performed} (s : run p (view m) (freshLabels f) ≡ run (nav q w storing) (view m) (freshLabels f)) (l : Way) (e : leads l ≡ way q w (view m documents)) where
+  pub nowhere : l .found ≡ false → Refuses Stopped r → Performs p f m m r
+  nowhere h a = refuses p f (s ∙ stops storing w q (view m) (freshLabels f) l e h) a
+
+  module _ (h : l .found ≡ true) {b : Bool} (u : Unwanted f b) where
+    turning : {n : List ℕ} → Performs (storing (turn w (l .from) (l .to))) f m n r → Performs p f m n r
+    turning = performs-as p (storing (turn w (l .from) (l .to))) (s ∙ turns storing w q (view m) (freshLabels f) l e h)
+
+    pub turns-stale : Brings [] (storing (turn w (l .from) (l .to))) → b ≡ false → Refuses NotFresh r → Performs p f m m r
+    turns-stale k z a = turning (unfresh (storing (turn w (l .from) (l .to))) f u k z a)
+
+    pub turns-over : {n o : List ℕ} {g : Tables → Tables} {puts drops : List Table} {room : Bool} → run (storing (turn w (l .from) (l .to))) (view m) [] ≡ run (turn w (l .from) (l .to)) (g (view m)) [] → b ≡ true
+        → Carries g puts drops m n room → Carries (turned w (l .from) (l .to)) [] [] n o true → Silent room r → Performs p f m o r
+    turns-over {g = g} k z c d a = turning (silently (storing (turn w (l .from) (l .to))) f u (k ∙ ran w (l .from) (l .to) (g (view m))) z (then-roomy refl c d) a)

@@ -1,13 +1,13 @@
 -- Rows of w numbers: one read, one replaced, one put between two.
 use mathlib.Core.Path.{_≡_, refl, sym, ap, ap₂, _∙_}
-use mathlib.Core.List.{List, [], _∷_, _++_, map, append-assoc}
-use Prim.Native.Nat.{ℕ, zero, suc, zero-le, suc-le-suc, _+_, _*_, _-_, _≤_, _<_}
-use native.Mathlib.Nat.{suc-mul, zero-mul, add-comm, mul-le-mul-right, not-suc-le-zero, le-of-suc-le-suc, add-assoc, zero-add, suc-add}
+use mathlib.Core.List.{List, [], _∷_, _++_, map}
+use Prim.Native.Nat.{ℕ, zero, suc, _+_, _*_, _-_, _≤_, _<_}
+use native.Mathlib.Nat.{suc-mul, zero-mul, add-comm, mul-le-mul-right, not-suc-le-zero, le-of-suc-le-suc, zero-add, suc-add}
 use native.Mathlib.Omega.{arith}
-use lib.ListN.{length, getD, take, drop, set, length-append, length-take, length-drop, length-map, List·getD-map}
-use lib.Seq.{take-all, length-take-le, take-append-le, drop-append-le, take-at, drop-at, take-take, drop-drop, take-nil}
+use lib.ListN.{length, getD, take, drop, set, length-drop}
+use lib.Seq.{length-take-le, take-append-le, drop-append-le, take-at, drop-at, take-take, drop-drop, take-nil}
 use Rattle.sorted.specs.Table.{opened}
-use Rattle.memory.specs.Rows.{chunks, over}
+use Rattle.memory.specs.Rows.{chunks}
 
 -- LISTS of anything.
 module _ {A : Type 0} where

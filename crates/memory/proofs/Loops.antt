@@ -1,21 +1,21 @@
 -- The loops over a table in a memory, each by the law of `sorted` for the rows.
-use mathlib.Core.Path.{_≡_, refl, sym, ap, ap₂, _∙_}
+use mathlib.Core.Path.{_≡_, sym, ap, ap₂, _∙_}
 use mathlib.Core.Bool.{Bool, true, false, true≢false}
-use mathlib.Core.List.{List, [], _∷_}
+use mathlib.Core.List.{List, []}
 use mathlib.Core.Option.{none, some}
-use Prim.Native.Nat.{ℕ, suc, _+_, _*_, _-_, _≤_, _<_, min}
+use Prim.Native.Nat.{ℕ, _+_, _*_, _-_, _≤_, _<_, min}
 use native.Mathlib.Numerals.{add-one}
 use native.Mathlib.Nat.{mul-le-mul-right}
 use native.Mathlib.Omega.{arith}
-use lib.ListN.{length, getD, take, drop, set, length-take, length-drop}
+use lib.ListN.{length, getD, take, drop, set, length-drop}
 use lib.Seq.{length-take-le, take-take}
 use Rattle.sorted.specs.declared.Order.{Order}
 use Rattle.sorted.specs.Order.{same, after}
-use Rattle.sorted.specs.Table.{find, keep, insert, stand, opened, Sought, Offered}
+use Rattle.sorted.specs.Table.{find, stand, opened}
 use Rattle.sorted.proofs.First.{Finding, find-start, find-next, find-hit, find-end}
 use Rattle.sorted.proofs.Seek.{Seeking, seek-start, seek-next, seek-hit, seek-end, lower-within}
 use Rattle.sorted.proofs.Keep.{Keeping, keep-start, keep-drops, keep-keeps, keep-end}
-use Rattle.sorted.proofs.Open.{at-below, put-over, put-new, put-full}
+use Rattle.sorted.proofs.Open.{at-below, put-over, put-new}
 use Rattle.memory.specs.Rows.{Layout, rows, count, table, place, end, over, shifted, Within, Read, Found, Kept, Put}
 use Rattle.memory.proofs.Chunks.{take-opened}
 use Rattle.memory.proofs.Table.{rows-length, counted, row-at, place-fits, rows-over, count-over, rows-count, count-count, rows-opened}
@@ -119,7 +119,7 @@ module _ {A : Type 0} {t : Layout A} {c : A → Order} {m : List ℕ} {at n : �
   pub place-within : at ≤ n
   place-within = omega (arith, s .is .place, s .is .size, lower-within c (table t m))
 
--- A ROW PUT IN, in three ways.
+-- A ROW PUT IN, in the place of another or between two.
 module _ {A K : Type 0} {t : Layout A} (key : A → K) (cmp : K → K → Order) (r : A) {m : List ℕ} {at n : ℕ} {hit : Bool} (c : List ℕ) (s : Found t (stand key cmp r) m at hit n)
     (l : end t ≤ length m) (z : length c ≡ t .width) (d : t .decode c ≡ r) where
   pub put-instead : {m₁ : List ℕ} → hit ≡ true → m₁ ≡ over m (place t at) c → Put t key cmp r m m₁ true
@@ -155,6 +155,3 @@ module _ {A K : Type 0} {t : Layout A} (key : A → K) (cmp : K → K → Order)
         same = λ e. absurd (true≢false e);
         rest = within-then f₁ (within-then f₂ f₃);
       }
-
-  pub put-nowhere : hit ≡ false → t .capacity ≤ n → Put t key cmp r m m false
-  put-nowhere h b = record { rows = put-full key cmp r (s .is) h b; same = λ e. refl; rest = within-refl _ _ _ }

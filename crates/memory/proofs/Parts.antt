@@ -6,7 +6,7 @@ use native.Mathlib.Nat.{add-assoc}
 use native.Mathlib.Omega.{arith}
 use lib.ListN.{length, take, drop, length-drop}
 use lib.Seq.{take-take, drop-drop}
-use Rattle.memory.specs.Rows.{total, Layout, chunks, rows, count, table, end}
+use Rattle.memory.specs.Rows.{total, Layout, chunks, table, end}
 use Rattle.memory.proofs.Chunks.{drop-take, chunks-take}
 use Rattle.memory.proofs.Table.{cell}
 

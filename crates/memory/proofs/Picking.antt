@@ -5,7 +5,7 @@ use mathlib.Core.List.{List, [], map}
 use Prim.Native.Nat.{ℕ, zero-le, _+_, _≤_, _<_, min}
 use native.Mathlib.Nat.{zero-add}
 use native.Mathlib.Omega.{arith}
-use lib.ListN.{length, getD, take, drop, set}
+use lib.ListN.{length, take, drop, set}
 use Rattle.sorted.specs.Table.{keep, fill}
 use Rattle.sorted.proofs.Count.{all-rows, next-row, no-row}
 use Rattle.sorted.proofs.Collect.{Collecting, collect-start, collect-skips, collect-takes, collect-end, fill-more, fill-end}

@@ -1,12 +1,12 @@
 -- A table in a memory: its rows read, replaced, put in; its count.
 use mathlib.Core.Path.{_≡_, refl, sym, ap, _∙_}
-use mathlib.Core.List.{List, [], _∷_, _++_, map, append-assoc}
-use Prim.Native.Nat.{ℕ, zero, suc, _+_, _*_, _-_, _≤_, _<_, min}
+use mathlib.Core.List.{List, [], _++_, map}
+use Prim.Native.Nat.{ℕ, suc, _+_, _*_, _-_, _≤_, _<_, min}
 use native.Mathlib.Nat.{mul-le-mul-right, suc-mul, add-zero}
 use native.Mathlib.Numerals.{add-one}
 use native.Mathlib.Omega.{arith}
-use lib.ListN.{length, getD, take, drop, set, length-append, length-take, length-drop, length-map, List·getD-map, List·getD-eq-default}
-use lib.Seq.{take-all, length-take-le, take-append-le, drop-append-le, take-at, drop-at, take-take, drop-drop, getD-drop, getD-take, drop-set-lt, getD-set-same, take-set-le}
+use lib.ListN.{length, getD, take, drop, set, length-take, length-drop, length-map, List·getD-map, List·getD-eq-default}
+use lib.Seq.{length-take-le, take-append-le, drop-append-le, drop-at, take-take, drop-drop, getD-drop, getD-take, drop-set-lt, getD-set-same}
 use Rattle.sorted.specs.Table.{opened}
 use Rattle.memory.specs.Rows.{Layout, chunks, rows, count, table, place, end, over, shifted, Read}
 use Rattle.memory.proofs.Chunks.{drop-take, map-set, map-take, map-opened, length-chunks, take-chunks, chunk-at, chunks-set, chunks-open}

@@ -9,7 +9,7 @@ use lib.Seq.{length-take-le, take-take, drop-drop, take-at, drop-at}
 use Rattle.sorted.specs.declared.Order.{Order}
 use Rattle.sorted.specs.Table.{stand}
 use Rattle.sorted.proofs.Open.{put-full}
-use Rattle.memory.specs.Rows.{Layout, Within, over, shifted, place, end, table, rows, Found, Put, Written, Cleared}
+use Rattle.memory.specs.Rows.{Layout, Within, over, shifted, place, end, rows, Found, Put, Written, Cleared}
 use Rattle.memory.proofs.Chunks.{drop-take}
 use Rattle.memory.proofs.Table.{place-fits, count-count}
 use Rattle.memory.proofs.Frame.{within-refl, within-then, within-over, within-set}

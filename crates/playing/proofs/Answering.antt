@@ -2,14 +2,13 @@
 --     verdict-small · count-short     the numbers of verdicts have one digit, and the bytes of an event have room
 --     turned                          the browser behind the item, and its line
 use mathlib.Core.Path.{_≡_, refl, sym, ap, subst, _∙_}
-use mathlib.Core.Bool.{Bool, true, false, cond}
-use mathlib.Core.List.{List, [], _∷_, _++_}
-use mathlib.Core.Option.{Option, none, some}
+use mathlib.Core.Bool.{Bool, cond}
+use mathlib.Core.List.{List, [], _∷_}
+use mathlib.Core.Option.{none, some}
 use Prim.Native.Nat.{ℕ, _+_, _≤_, _<_}
 use native.Mathlib.Omega.{arith}
 use borrow.Author.Tests.{le-leb, eq-eqb, ne-eqb}
-use lib.Dec.{leb, eqb}
-use lib.ListN.{length, take, drop}
+use lib.ListN.{length}
 use Rattle.csexp.specs.Term.{decimal, write}
 use Rattle.csexp.proofs.Numbers.{decimal-small}
 use Rattle.csexp.proofs.Terms.{write-long}

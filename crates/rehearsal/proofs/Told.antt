@@ -13,14 +13,13 @@ use lib.ListN.{length, take, drop}
 use Rattle.csexp.specs.Term.{write}
 use Rattle.csexp.specs.declared.write.Written.{Written}
 use Rattle.csexp.specs.declared.write.Written.the-variants.{Bytes, NoRoom as Crowded}
-use Rattle.types.specs.declared.cookies.Cookie.{Cookie}
 use Rattle.types.specs.declared.items.Item.{Item}
 use Rattle.types.specs.declared.refusals.Refusal.{Refusal}
 use Rattle.types.specs.declared.refusals.Refusal.the-variants.{BadText, BadShape, Lacking, Stopped, NotFresh, Full, NoRoom, Closed}
 use Rattle.types.specs.declared.refusals.Verdict.{Verdict}
 use Rattle.types.specs.declared.refusals.Verdict.the-variants.{Accepted, Refused}
 use Rattle.sorted.proofs.Count.{taken-fits}
-use Rattle.shapes.specs.Events.{Message, eventOf, eventText, messageOf}
+use Rattle.shapes.specs.Events.{Message, eventOf, messageOf}
 use Rattle.writing.specs.Wrote.{Wrote}
 use Rattle.wim.specs.Program.{Outcome, refused, made}
 use Rattle.wim.specs.Step.{Browser, Result, declined, accepted, closes, concluded, stepTables}
@@ -30,10 +29,10 @@ use Rattle.browser.proofs.Closed.{free-rows}
 use Rattle.stepping.specs.declared.Performed.{Performed}
 use Rattle.stepping.specs.Gives.{keeps}
 use Rattle.four_rows.proofs.Programs.{step-never-full}
-use Rattle.perform.specs.Acts.{isAccepted, happening, Ended, Acts}
+use Rattle.perform.specs.Acts.{isAccepted, Ended, Acts}
 use Rattle.rehearsal.specs.declared.telling.Rehearsed.{Rehearsed}
 use Rattle.rehearsal.specs.Writes.{answered, Writes}
-use Rattle.rehearsal.specs.Rehearses.{saying, Short, Returns}
+use Rattle.rehearsal.specs.Rehearses.{saying, Returns}
 
 -- the bytes of an event in a buffer
 abbrev there : Message → List ℕ → ℕ → List ℕ

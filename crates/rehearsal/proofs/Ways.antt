@@ -1,6 +1,6 @@
 -- The ways through a step on text: 1 and 2, 8, the item's own.
 use mathlib.Core.Path.{_≡_, refl, sym, ap, subst, _∙_}
-use mathlib.Core.Bool.{Bool, true, false}
+use mathlib.Core.Bool.{true, false}
 use mathlib.Core.List.{List}
 use Prim.Native.Nat.{ℕ}
 use Rattle.types.specs.declared.items.Item.{Item}
@@ -13,7 +13,7 @@ use Rattle.reading.specs.declared.texts.Reading.{Reading}
 use Rattle.reading.specs.Readings.{readingOf}
 use Rattle.wim.specs.Step.{Result, declined, step}
 use Rattle.wim.specs.Run.{performed}
-use Rattle.wim.specs.Wire.{Returned, returning, rehearsing, rehearse}
+use Rattle.wim.specs.Wire.{returning, rehearsing, rehearse}
 use Rattle.browser.specs.View.{isClosed, browser}
 use Rattle.perform.specs.Acts.{happening}
 use Rattle.rehearsal.specs.declared.telling.Rehearsed.{Rehearsed}

@@ -1,6 +1,6 @@
 -- The ways through a DNS answer, on any tables and fresh numbers. No code stands here.
 use mathlib.Core.Path.{_≡_, refl, sym, _∙_, ap, subst}
-use mathlib.Core.Bool.{Bool, true, false, not, _&&_}
+use mathlib.Core.Bool.{Bool, true, false, not}
 use mathlib.Core.List.{List, [], _∷_}
 use mathlib.Core.Option.{Option, some}
 use Prim.Native.Nat.{ℕ}
@@ -16,7 +16,7 @@ use Rattle.types.specs.declared.rows.Question.{Question}
 use Rattle.types.specs.declared.rows.Waiting.{Waiting}
 use Rattle.sorted.specs.Order.{same}
 use Rattle.sorted.specs.Table.{at, looked}
-use Rattle.tables.specs.Tables.{Table, pendingDNS, pendingRequests, keyOf, cmp, Tables}
+use Rattle.tables.specs.Tables.{pendingDNS, pendingRequests, keyOf, cmp, Tables}
 use Rattle.tables.specs.Labels.{Label}
 use Rattle.tables.specs.Rows.{sameHost}
 use Rattle.shapes.specs.Events.{unsealed, sealed}
@@ -29,7 +29,7 @@ use Rattle.pending_requests.specs.Tidied.{tidied as tidiedWaiting}
 use Rattle.stepping.specs.Brings.{Brings}
 use Rattle.stepping.specs.Holds.{Carries}
 use Rattle.stepping.specs.Wanted.{kinds, picked, wantsNothing, wantsKey}
-use Rattle.stepping.proofs.Carry.{carries-then, put-carries, keep-carries}
+use Rattle.stepping.proofs.Carry.{then-roomy, put-carries, keep-carries}
 use Rattle.resolving.specs.Waits.{handedOver}
 
 -- THE QUESTION is looked up by its number.
@@ -77,19 +77,12 @@ module _ (q : Question) (address : Address) (f : Fresh) where
   ran-sealed b = refl
 
 -- WHAT IS HANDED OVER: rows that are taken want no room; of a tidy question the row is the definitions' own.
-and-true : (x : Bool) → (x && true) ≡ x
-and-true true = refl
-and-true false = refl
-
-roomy : {g : Tables → Tables} {puts drops : List Table} {m n : List ℕ} {x : Bool} → Carries g puts drops m n (x && true) → Carries g puts drops m n x
-roomy {g} {puts} {drops} {m} {n} {x} c = subst (λ (y : Bool). Carries g puts drops m n y) (and-true x) c
-
 pub hands : (q : Question) (seal : Seal) (address : Address) {row : Waiting} {m n o : List ℕ} {room : Bool} → row ≡ waitingOf q seal address
     → Put requestsIn (keyOf pendingRequests) (cmp pendingRequests) (tidiedWaiting row) m n room
     → Kept questionsIn (λ (r : Question). not (same (cmp pendingDNS (keyOf pendingDNS q) (keyOf pendingDNS r)))) n o
     → Carries (handedOver (tidied q) seal address) (pendingRequests ∷ []) (pendingDNS ∷ []) m o room
 hands q seal address {row} {m} {n} {o} {room} e p k =
-    roomy (carries-then refl (put-carries pendingRequests (subst (λ (x : Waiting). Put requestsIn (keyOf pendingRequests) (cmp pendingRequests) (tidiedWaiting x) m n room) e p)) (keep-carries pendingDNS k))
+    then-roomy refl (put-carries pendingRequests (subst (λ (x : Waiting). Put requestsIn (keyOf pendingRequests) (cmp pendingRequests) (tidiedWaiting x) m n room) e p)) (keep-carries pendingDNS k)
 
 pub of-tidy : (q : Question) (seal : Seal) (address : Address) {m n : List ℕ} {room : Bool} → tidied q ≡ q
     → Carries (handedOver (tidied q) seal address) (pendingRequests ∷ []) (pendingDNS ∷ []) m n room → Carries (handedOver q seal address) (pendingRequests ∷ []) (pendingDNS ∷ []) m n room

@@ -32,7 +32,7 @@ use Rattle.stepping.specs.Gives.{Refuses, Concludes, Silent}
 use Rattle.stepping.specs.Holds.{apart, Carries}
 use Rattle.stepping.specs.Performs.{Performs}
 use Rattle.stepping.specs.Wanted.{kinds, picked, ready}
-use Rattle.stepping.proofs.Carry.{carries-none, carries-then}
+use Rattle.stepping.proofs.Carry.{and-true, carries-none, carries-then}
 use Rattle.stepping.proofs.Sends.{brings-send}
 use Rattle.stepping.proofs.Ways.{stales, ends, performs-as}
 use Rattle.sending.specs.Sends.{Sends}
@@ -55,10 +55,6 @@ apart-by (Handed row) = refl
 apart-by NothingMore = refl
 
 -- WHAT THE CODE DOES on each course.
-and-true : (x : Bool) → (x && true) ≡ x
-and-true true = refl
-and-true false = refl
-
 says : {x y : Bool} {r : Performed} → y ≡ x → Silent x r → Concludes y Silence blankRequest r
 says e s = record { full = λ h. s .full (sym e ∙ h); fits = λ h. s .fits (sym e ∙ h) }
 

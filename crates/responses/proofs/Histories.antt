@@ -1,24 +1,21 @@
 -- What is kept and counted of a window's history, over all documents at once; and how many there may be.
 use mathlib.Core.Path.{_≡_, refl, sym, subst}
-use mathlib.Core.Bool.{Bool}
 use mathlib.Core.List.{List}
 use mathlib.Core.Option.{Option, none, some}
 use Prim.Native.Nat.{ℕ, _≤_}
-use native.Mathlib.Omega.{arith}
 use lib.Dec.{ltb, leb}
 use lib.ListN.{length}
 use Rattle.types.specs.declared.rows.Document.{Document}
 use Rattle.types.specs.declared.WindowNumber.{WindowNumber}
 use Rattle.sorted.specs.Table.{keep}
-use Rattle.sorted.proofs.Count.{taken-fits}
-use Rattle.sorted.proofs.Member.{length-keep}
+use Rattle.tables.specs.Tables.{documents}
 use Rattle.tables.specs.Rows.{sameWindow}
-use Rattle.memory.specs.Rows.{rows, count, table}
-use Rattle.memory.proofs.Table.{rows-length}
+use Rattle.memory.specs.Rows.{table}
 use Rattle.memory.proofs.Both.{keep-both}
 use Rattle.layouts.specs.Tables.{documentsIn}
 use Rattle.wim.specs.Walks.{documentsOf}
 use Rattle.wim.specs.Response.{laterThan, upTo}
+use Rattle.stepping.proofs.Carry.{kept-few}
 use Rattle.documents.specs.declared.tests.Which.the-variants.{InWindow, LaterIn, UpToIn}
 use Rattle.documents.specs.Which.{passes}
 
@@ -36,12 +33,6 @@ unfolding documentsOf
 kept-all v ds = refl
 
 -- no more than the table has room for
-few-documents : (p : Document → Bool) (m : List ℕ) → length (keep p (table documentsIn m)) ≤ 64
-few-documents p m =
-    let a : length (keep p (table documentsIn m)) ≤ length (table documentsIn m) = length-keep p (table documentsIn m) in
-    let b : length (table documentsIn m) ≤ 64 = taken-fits (count documentsIn m) 64 (rows documentsIn m) (rows-length documentsIn m) in
-    omega arith
-
 pub few-up-to : (current : Option Document) (v : WindowNumber) (m : List ℕ) → length (upTo current (documentsOf (table documentsIn m) v)) ≤ 64
-few-up-to none v m = subst (λ (l : List Document). length l ≤ 64) (kept-all v (table documentsIn m)) (few-documents (passes (InWindow v)) m)
-few-up-to (some d) v m = subst (λ (l : List Document). length l ≤ 64) (kept-up-to v d (table documentsIn m)) (few-documents (passes (UpToIn v (d .place))) m)
+few-up-to none v m = subst (λ (l : List Document). length l ≤ 64) (kept-all v (table documentsIn m)) (kept-few documents (passes (InWindow v)) m)
+few-up-to (some d) v m = subst (λ (l : List Document). length l ≤ 64) (kept-up-to v d (table documentsIn m)) (kept-few documents (passes (UpToIn v (d .place))) m)

@@ -21,17 +21,13 @@ use Rattle.wim.specs.Script.{isForbidden, urlOrigin, xhrSending, xhr}
 use Rattle.wim.specs.Step.{freshLabels}
 use Rattle.browser.specs.View.{view}
 use Rattle.stepping.specs.declared.Performed.{Performed}
-use Rattle.stepping.specs.Brings.{Brings}
 use Rattle.stepping.specs.Gives.{Refuses}
-use Rattle.stepping.specs.Wanted.{kinds, picked, wantsSend}
+use Rattle.stepping.specs.Wanted.{picked, wantsSend}
 use Rattle.stepping.specs.Performs.{Performs}
-use Rattle.stepping.proofs.Sends.{numbersOf, brings-send}
+use Rattle.stepping.proofs.Sends.{numbersOf}
 use Rattle.stepping.proofs.Ways.{refuses, performs-as}
 use Rattle.storing.specs.declared.scene.Scene.{Scene}
 use Rattle.storing.specs.Stored.{storing, stored}
-
-pub brings-fetch : (s : Scene) (o : Sending) (f : Fresh) → Brings (kinds (picked wantsSend f)) (storing s (send o))
-brings-fetch s o f = brings-send o
 
 pub fetch-sends : (s : Scene) (o : Sending) (f : Fresh) (b : Tables) → run (storing s (send o)) b (picked wantsSend f) ≡ run (send o) (stored s b) (numbersOf f)
 unfolding run

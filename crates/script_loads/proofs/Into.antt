@@ -1,7 +1,7 @@
 -- The ways of a page into a window, on any tables and fresh numbers. No code stands here.
-use mathlib.Core.Path.{_≡_, refl, sym, _∙_, ap, subst}
-use mathlib.Core.Bool.{Bool, true, cond, _&&_}
-use mathlib.Core.List.{List, [], _∷_, _++_}
+use mathlib.Core.Path.{_≡_, refl, sym, _∙_, ap}
+use mathlib.Core.Bool.{cond}
+use mathlib.Core.List.{List, [], _∷_}
 use Prim.Native.Nat.{ℕ}
 use Rattle.types.specs.declared.commands.Target.the-variants.{Existing}
 use Rattle.types.specs.declared.Fresh.{Fresh}
@@ -12,11 +12,11 @@ use Rattle.types.specs.declared.Sending.{Sending}
 use Rattle.types.specs.declared.rows.Opener.{Opener}
 use Rattle.types.specs.declared.rows.Window.{Window}
 use Rattle.sorted.specs.Table.{put}
-use Rattle.tables.specs.Tables.{Table, windows, documents, Tables, apply}
+use Rattle.tables.specs.Tables.{windows, documents, Tables, apply}
 use Rattle.tables.specs.Labels.{Label}
 use Rattle.tables.specs.Rows.{originOf}
 use Rattle.wim.specs.Navigable.{mayNavigate}
-use Rattle.wim.specs.Program.{Program, observed, run}
+use Rattle.wim.specs.Program.{observed, run}
 use Rattle.wim.specs.Sending.{send}
 use Rattle.wim.specs.Script.{newTopWindow}
 use Rattle.wim.specs.Step.{freshLabels}
@@ -24,23 +24,13 @@ use Rattle.browser.specs.View.{view}
 use Rattle.stepping.specs.declared.Performed.{Performed}
 use Rattle.stepping.specs.Brings.{Brings}
 use Rattle.stepping.specs.Wanted.{kinds, picked, wantsSend, wantsOpen}
-use Rattle.stepping.specs.Holds.{apart, Carries}
 use Rattle.stepping.specs.Performs.{Performs}
-use Rattle.stepping.proofs.Carry.{carries-then}
 use Rattle.stepping.proofs.Sends.{numbersOf, brings-send}
 use Rattle.stepping.proofs.Ways.{performs-as}
 use Rattle.storing.specs.declared.scene.Scene.{Scene}
 use Rattle.storing.specs.Stored.{storing, stored}
 use Rattle.sending.specs.Cancels.{cancelled}
 use Rattle.script_loads.specs.Navigation.{intoNew, intoExisting, navigation}
-
--- two that put, with what the code said of both
-pub carries-both : {f g : Tables → Tables} {p q n d : List Table} {k l o : List ℕ} {a b x : Bool} → apart d p ≡ true → x ≡ (a && b) → Carries f p n k l a → Carries g q d l o b → Carries (λ w. g (f w)) (q ++ p) (n ++ d) k o x
-carries-both {f} {g} {p} {q} {n} {d} {k} {l} {o} z e x y = subst (λ (r : Bool). Carries (λ w. g (f w)) (q ++ p) (n ++ d) k o r) (sym e) (carries-then z x y)
-
--- what a program is of a value that is told
-pub performs-at : {A : Type 0} (p : A → Program) {x y : A} {f : Fresh} {m n : List ℕ} {r : Performed} → x ≡ y → Performs (p y) f m n r → Performs (p x) f m n r
-performs-at {A} p {f = f} {m} {n} {r} e = subst (λ (z : A). Performs (p z) f m n r) (sym e)
 
 -- WHAT IS BROUGHT.
 module _ (s : Scene) (out : WindowNumber → Sending) (f : Fresh) where

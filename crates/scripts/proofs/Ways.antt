@@ -1,9 +1,8 @@
 -- The ways through RUNSCRIPT. No code stands here.
-use mathlib.Core.Path.{_≡_, sym, ap, subst}
+use mathlib.Core.Path.{_≡_, sym, ap}
 use mathlib.Core.List.{List}
 use Prim.Native.Nat.{ℕ}
 use lib.ListN.{take}
-use Rattle.types.specs.declared.commands.Command.{Command}
 use Rattle.types.specs.declared.cookies.Cookie.{Cookie}
 use Rattle.types.specs.declared.items.Output.{Output}
 use Rattle.types.specs.declared.Fresh.{Fresh}
@@ -27,11 +26,6 @@ use Rattle.history.proofs.Ways.{goesOn, display-goes}
 use Rattle.storing.specs.declared.scene.Scene.{Scene}
 use Rattle.storing.specs.Stored.{storing}
 use Rattle.scripts.specs.Acting.{acting}
-
--- THE COMMAND is the one that the script puts out.
-pub commanded : (s : Scene) {f : Fresh} {m n : List ℕ} {r : Performed} {k : Command} → s .output .command ≡ k → Performs (command (s .window) (s .document) (storing s) k) f m n r
-    → Performs (command (s .window) (s .document) (storing s) (s .output .command)) f m n r
-commanded s {f} {m} {n} {r} e a = subst (λ (x : Command). Performs (command (s .window) (s .document) (storing s) x) f m n r) (sym e) a
 
 -- THE SCENE: its cookies are those of the host, merged with the script's.
 pub acts : (s : Scene) (new : List Cookie) (f : Fresh) (m n : List ℕ) (r : Performed)

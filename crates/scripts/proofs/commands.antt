@@ -1,5 +1,4 @@
 -- The ways through a script's commands that send nothing.
-pub mod Ways
 pub mod Sets
 pub mod Posts
 pub mod Front

@@ -43,14 +43,7 @@ fn command(m: &mut Memory, s: Scene, f: Fresh) -> Performed
         Command::Back(x) => commands::back(m, s, x, f),
         Command::Forward(x) => commands::forward(m, s, x, f),
         Command::Close(x) => commands::close(m, s, x, f),
-        Command::PostMessage(x, message, to) => commands::post_message(
-            m,
-            s,
-            x,
-            message,
-            to,
-            f,
-        ),
+        Command::PostMessage(x, message, to) => commands::post_message(m, s, x, message, to, f),
     }
 }
 

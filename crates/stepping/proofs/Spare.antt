@@ -13,6 +13,7 @@ use Rattle.wim.specs.Step.{given, allFresh}
 use Rattle.tables.specs.View.{labelOf}
 use Rattle.labels.proofs.Laws.{no-host}
 use Rattle.stepping.specs.Wanted.{allSpare}
+use Rattle.stepping.proofs.Exact.{five}
 
 pub all-spare : (b : Tables) (ls : List Label) → allFresh b (given ls) ≡ allSpare b ls
 unfolding allFresh
@@ -42,8 +43,4 @@ pub fresh-tables : (l : Mark) (b : Tables)
     → (clean windows (labelOf l) (b windows) && (clean documents (labelOf l) (b documents) && (clean sessionStorage (labelOf l) (b sessionStorage) && (clean inputs (labelOf l) (b inputs) && (clean pendingDNS (labelOf l) (b pendingDNS) && clean pendingRequests (labelOf l) (b pendingRequests))))))
     ≡ isFresh b (labelOf l)
 unfolding isFresh
-fresh-tables l b = rw (clean-cookies l (b cookies), clean-local l (b localStorage), clean-sts l (b sts)) (at-end (clean windows (labelOf l) (b windows)) (clean documents (labelOf l) (b documents)) (clean sessionStorage (labelOf l) (b sessionStorage)) (clean inputs (labelOf l) (b inputs)) (clean pendingDNS (labelOf l) (b pendingDNS)) (clean pendingRequests (labelOf l) (b pendingRequests)))
-  where
-    at-end : (u v w x y z : Bool) → (u && (v && (w && (x && (y && z))))) ≡ (u && (v && (w && (x && (y && (z && true))))))
-    at-end u v w x y true = refl
-    at-end u v w x y false = refl
+fresh-tables l b = rw (clean-cookies l (b cookies), clean-local l (b localStorage), clean-sts l (b sts)) (ap (clean windows (labelOf l) (b windows) &&_) (five (clean documents (labelOf l) (b documents)) (clean sessionStorage (labelOf l) (b sessionStorage)) (clean inputs (labelOf l) (b inputs)) (clean pendingDNS (labelOf l) (b pendingDNS)) (clean pendingRequests (labelOf l) (b pendingRequests))))

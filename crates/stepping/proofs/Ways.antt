@@ -2,7 +2,7 @@
 use mathlib.Core.Path.{_≡_, refl, sym, _∙_, ap, subst}
 use mathlib.Core.Bool.{Bool, true, false, cond, not, _&&_, false≢true}
 use mathlib.Core.List.{List, [], _∷_}
-use mathlib.Core.Option.{Option, none}
+use mathlib.Core.Option.{none}
 use Prim.Native.Nat.{ℕ}
 use lib.Dec.{eqb}
 use Rattle.types.specs.declared.Fresh.{Fresh}
@@ -18,9 +18,9 @@ use Rattle.tables.specs.Rows.{blankRequest}
 use Rattle.shapes.specs.Events.{messageOf}
 use Rattle.wim.specs.Program.{Query, Observed, observed, Program, ask, Outcome, refused, made, run}
 use Rattle.wim.specs.Step.{numbers, given, freshLabels, allFresh, fits, fitted, admit}
-use Rattle.stepping.specs.Wanted.{flags, kinds, picked, exactly, ready, wantsNothing}
+use Rattle.stepping.specs.Wanted.{kinds, picked, exactly, ready, wantsNothing, Unwanted}
 use Rattle.stepping.specs.Brings.{Brings}
-use Rattle.stepping.proofs.Exact.{unready, readied}
+use Rattle.stepping.proofs.Exact.{unready, readied, five}
 use Rattle.browser.specs.View.{view}
 use Rattle.stepping.specs.declared.Performed.{Performed}
 use Rattle.stepping.specs.Holds.{Holds, Carries}
@@ -55,6 +55,22 @@ module _ (p : Program) (f : Fresh) {m : List ℕ} {r : Performed} where
   pub ends-silent : {n : List ℕ} {room : Bool} {g : Tables → Tables} {puts drops : List Table} (w : Wants) → ready w f (view m) ≡ true
       → run p (view m) (picked w f) ≡ made (g (view m)) none → Carries g puts drops m n room → Silent room r → Performs p f m n r
   ends-silent {n} w e s c a = ends {sent = Silence} {q = blankRequest} w e s c (record { full = a .full; fits = a .fits })
+
+-- WHERE NO NUMBER IS BROUGHT the code asks whether none is given: 5, or what is changed, in silence.
+pub unwanted : {f : Fresh} {x y : Bool} → Unwanted f x → (b : Tables) → x ≡ y → ready wantsNothing f b ≡ y
+unwanted u b e = sym (u .is b) ∙ e
+
+module _ (p : Program) (f : Fresh) {m : List ℕ} {r : Performed} {x : Bool} (u : Unwanted f x) where
+  pub unfresh : Brings [] p → x ≡ false → Refuses NotFresh r → Performs p f m m r
+  unfresh k e a = stales p f wantsNothing k (unwanted u (view m) e) a
+
+  pub silently : {n : List ℕ} {room : Bool} {g : Tables → Tables} {puts drops : List Table}
+      → run p (view m) [] ≡ made (g (view m)) none → x ≡ true → Carries g puts drops m n room → Silent room r → Performs p f m n r
+  silently s e c a = ends-silent p f wantsNothing (unwanted u (view m) e) s c a
+
+-- a program of a value that is told
+pub performs-at : {A : Type 0} (p : A → Program) {x y : A} {f : Fresh} {m n : List ℕ} {r : Performed} → x ≡ y → Performs (p y) f m n r → Performs (p x) f m n r
+performs-at {A} p {f = f} {m} {n} {r} e = subst (λ (z : A). Performs (p z) f m n r) (sym e)
 
 -- a program that begins with another's answer known
 pub performs-as : (p q : Program) {f : Fresh} {m n : List ℕ} {r : Performed} → run p (view m) (freshLabels f) ≡ run q (view m) (freshLabels f) → Performs q f m n r → Performs p f m n r
@@ -92,10 +108,6 @@ none-fresh b (l ∷ ls) = go (eqb (l .1) 0) (none-fresh b ls)
     go true e = e
     go false e = refl
 
-and-true : (a : Bool) → a ≡ (a && true)
-and-true true = refl
-and-true false = refl
-
 pub wants-none : (f : Fresh) (b : Tables) → (eqb (f .window .0) 0 && (eqb (f .request .0) 0 && (eqb (f .dns .0) 0 && (eqb (f .key .0) 0 && eqb (f .document .0) 0)))) ≡ ready wantsNothing f b
 unfolding noneOf
-wants-none f b = let e = none-exactly (numbers f) in let g = none-fresh b (numbers f) in ap (λ (x : Bool). eqb (f .window .0) 0 && (eqb (f .request .0) 0 && (eqb (f .dns .0) 0 && (eqb (f .key .0) 0 && x)))) (and-true (eqb (f .document .0) 0)) ∙ g ∙ ap (_&& allFresh b (freshLabels f)) e
+wants-none f b = let e = none-exactly (numbers f) in let g = none-fresh b (numbers f) in five (eqb (f .window .0) 0) (eqb (f .request .0) 0) (eqb (f .dns .0) 0) (eqb (f .key .0) 0) (eqb (f .document .0) 0) ∙ g ∙ ap (_&& allFresh b (freshLabels f)) e

@@ -1,5 +1,3 @@
--- The laws of cookie lists, of inputs, and of changes that name more tables.
+-- The laws of cookie lists.
 pub mod Names
 pub mod Lasting
-pub mod Filed
-pub mod Wide

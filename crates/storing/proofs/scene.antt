@@ -1,4 +1,3 @@
 -- The laws of what a script's step stands on and stores.
 pub mod Getting
-pub mod Running
 pub mod Stores

@@ -1,6 +1,6 @@
 -- The four ways through forward and back. No code stands here.
-use mathlib.Core.Path.{_≡_, _∙_}
-use mathlib.Core.Bool.{true, false}
+use mathlib.Core.Path.{_≡_, refl}
+use mathlib.Core.Bool.{Bool, true, false}
 use mathlib.Core.List.{List, []}
 use Prim.Native.Nat.{ℕ}
 use Rattle.types.specs.declared.Fresh.{Fresh}
@@ -16,15 +16,16 @@ use Rattle.browser.specs.View.{view}
 use Rattle.stepping.specs.declared.Performed.{Performed}
 use Rattle.stepping.specs.Holds.{Carries}
 use Rattle.stepping.specs.Gives.{Refuses, Silent}
-use Rattle.stepping.specs.Wanted.{ready, wantsNothing}
+use Rattle.stepping.specs.Wanted.{Unwanted}
 use Rattle.stepping.specs.Performs.{Performs}
-use Rattle.stepping.proofs.Ways.{refuses, stales, ends-silent, performs-as}
+use Rattle.stepping.proofs.Carry.{carries-none}
+use Rattle.stepping.proofs.Ways.{refuses}
 use Rattle.history.specs.declared.Display.the-variants.{Lacks, Shows}
 use Rattle.history.specs.declared.Towards.{Towards}
 use Rattle.history.specs.declared.Way.{Way}
 use Rattle.history.specs.Display.{displayAt}
-use Rattle.history.specs.Directions.{nav, way, leads, turn, turned}
-use Rattle.history.proofs.Ways.{display-goes, stops, turns, ran}
+use Rattle.history.specs.Directions.{nav, way, leads, turned}
+use Rattle.history.proofs.Ways.{display-goes, nowhere, turns-stale, turns-over}
 
 -- nothing is stored before it moves
 abbrev triggerOf : Towards → WindowNumber → Program
@@ -39,13 +40,10 @@ module _ (q : Towards) (w : WindowNumber) (f : Fresh) (m : List ℕ) (r : Perfor
     seen = display-goes w (λ top d. nav q w (λ p. p)) (view m) (freshLabels f) (Shows top d) s
 
     pub stopped : l .found ≡ false → Refuses Stopped r → Performs (triggerOf q w) f m m r
-    stopped t a = refuses (triggerOf q w) f (seen ∙ stops (λ p. p) w q (view m) (freshLabels f) l e t) a
+    stopped = nowhere (triggerOf q w) (λ p. p) w q f seen l e
 
-    moves : {n : List ℕ} → l .found ≡ true → Performs (turn w (l .from) (l .to)) f m n r → Performs (triggerOf q w) f m n r
-    moves t a = performs-as (triggerOf q w) (turn w (l .from) (l .to)) (seen ∙ turns (λ p. p) w q (view m) (freshLabels f) l e t) a
+    pub stale : {b : Bool} → l .found ≡ true → Unwanted f b → b ≡ false → Refuses NotFresh r → Performs (triggerOf q w) f m m r
+    stale h u = turns-stale (triggerOf q w) (λ p. p) w q f seen l e h u tt
 
-    pub stale : l .found ≡ true → ready wantsNothing f (view m) ≡ false → Refuses NotFresh r → Performs (triggerOf q w) f m m r
-    stale t k a = moves t (stales (turn w (l .from) (l .to)) f wantsNothing tt k a)
-
-    pub turned-over : {n : List ℕ} → l .found ≡ true → ready wantsNothing f (view m) ≡ true → Carries (turned w (l .from) (l .to)) [] [] m n true → Silent true r → Performs (triggerOf q w) f m n r
-    turned-over t k c a = moves t (ends-silent (turn w (l .from) (l .to)) f wantsNothing k (ran w (l .from) (l .to) (view m)) c a)
+    pub turned-over : {b : Bool} {n : List ℕ} → l .found ≡ true → Unwanted f b → b ≡ true → Carries (turned w (l .from) (l .to)) [] [] m n true → Silent true r → Performs (triggerOf q w) f m n r
+    turned-over h u z = turns-over (triggerOf q w) (λ p. p) w q f seen l e h u refl z (carries-none m)

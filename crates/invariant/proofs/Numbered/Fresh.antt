@@ -1,8 +1,9 @@
 -- Fresh numbers: what refusal 5 tells of the tables before a step, and refusal 6 of those after it.
-use mathlib.Core.Path.{_≡_, refl, sym, _∙_, ap, ap₂, subst}
+use mathlib.Core.Path.{_≡_, refl, sym, _∙_, ap, subst}
 use mathlib.Core.Logic.{inl, inr}
-use mathlib.Core.Bool.{Bool, true, false, not, _&&_, _||_}
+use mathlib.Core.Bool.{Bool, true, false, cond, not}
 use mathlib.Core.List.{List, _∷_}
+use mathlib.Core.Option.{Option}
 use Prim.Native.Nat.{ℕ, zero, suc, _≤_}
 use borrow.Author.Tests.{leb-true, eqb-true, eq-eqb, not-true}
 use lib.Dec.{eqb}
@@ -11,34 +12,29 @@ use Rattle.sorted.specs.Table.{In}
 use Rattle.sorted.proofs.Never.{never}
 use Rattle.tables.specs.Tables.{Table, Row, cap, Tables}
 use Rattle.tables.specs.Labels.{Kind, window, request, dns, key, document, host, Label, code, sameLabel, among, mentions, clean, isFresh}
-use Rattle.wim.specs.Step.{allFresh, fit, fits}
-use Rattle.sorted.proofs.Tests.{and-split}
+use Rattle.shapes.specs.Events.{Message}
+use Rattle.wim.specs.Nouns.{NotFresh, Full}
+use Rattle.wim.specs.Program.{Outcome, refused, made}
+use Rattle.wim.specs.Step.{allFresh, fit, fits, admit}
+use Rattle.sorted.proofs.Tests.{and-split, and-both, or-left, or-right}
 use Rattle.tables.proofs.Update.{every-one}
 
 -- a label stands in no row
 pub record Absent (l : Label) (b : Tables) : Type 0 where
   pub nowhere : (t : Table) (r : Row t) → In r (b t) → In l (mentions t r) → ⊥
 
-among-in : (l : Label) (ms : List Label) → In l ms → among l ms ≡ true
-among-in l (m ∷ ms) (inl e) = go (sameLabel l m) same
+pub in-among : (l : Label) (ms : List Label) → In l ms → among l ms ≡ true
+in-among l (m ∷ ms) (inl e) = or-left (sameLabel l m) (among l ms) same
   where
     same : sameLabel l m ≡ true
-    same = ap₂ _&&_ (eq-eqb _ _ (ap (λ (x : Label). code (x .0)) e)) (eq-eqb _ _ (ap (λ (x : Label). x .1) e))
+    same = and-both (eqb (code (l .0)) (code (m .0))) (eqb (l .1) (m .1)) (eq-eqb _ _ (ap (λ (x : Label). code (x .0)) e)) (eq-eqb _ _ (ap (λ (x : Label). x .1) e))
+in-among l (m ∷ ms) (inr i) = or-right (sameLabel l m) (among l ms) (in-among l ms i)
 
-    go : (x : Bool) → x ≡ true → x || among l ms ≡ true
-    go true p = refl
-    go false p = never (cc)
-among-in l (m ∷ ms) (inr i) = go (sameLabel l m) (among-in l ms i)
-  where
-    go : (x : Bool) → among l ms ≡ true → x || among l ms ≡ true
-    go true p = refl
-    go false p = p
-
-clean-absent : (t : Table) (l : Label) (rs : List (Row t)) → clean t l rs ≡ true → (r : Row t) → In r rs → In l (mentions t r) → ⊥
+pub clean-absent : (t : Table) (l : Label) (rs : List (Row t)) → clean t l rs ≡ true → (r : Row t) → In r rs → In l (mentions t r) → ⊥
 unfolding clean
 clean-absent t l (x ∷ rs) e r (inl p) i =
     let z = and-split (not (among l (mentions t x))) (clean t l rs) e in
-    let w : among l (mentions t x) ≡ true = among-in l (mentions t x) (subst (λ (y : Row t). In l (mentions t y)) p i) in
+    let w : among l (mentions t x) ≡ true = in-among l (mentions t x) (subst (λ (y : Row t). In l (mentions t y)) p i) in
     let v : among l (mentions t x) ≡ false = not-true _ (z .0) in
     never (cc)
 clean-absent t l (x ∷ rs) e r (inr j) i = clean-absent t l rs (and-split (not (among l (mentions t x))) (clean t l rs) e .1) r j i
@@ -76,3 +72,13 @@ of-kind κ l e =
 pub fits-sizes : (b : Tables) → fits b ≡ true → (t : Table) → length (b t) ≤ cap t
 unfolding fits
 fits-sizes b e t = leb-true (length (b t)) (cap t) (every-one (fit b) e t)
+
+-- what an accepted step passed: 5 and 6
+pub admitted : (f : List Label) (b : Tables) (o : Outcome) (c : Tables) (m : Option Message) → admit f b o ≡ made c m → (o ≡ made c m) × (allFresh b f ≡ true) × (fits c ≡ true)
+admitted f b (refused r) c m e = never (cc)
+admitted f b (made d n) c m e = go (allFresh b f) (fits d) refl refl e
+  where
+    go : (x y : Bool) → allFresh b f ≡ x → fits d ≡ y → cond x (cond y (made d n) (refused Full)) (refused NotFresh) ≡ made c m → (made d n ≡ made c m) × (allFresh b f ≡ true) × (fits c ≡ true)
+    go true true p q h = let z : d ≡ c = cc in (h, p, subst (λ (v : Tables). fits v ≡ true) z q)
+    go true false p q h = never (cc)
+    go false y p q h = never (cc)

@@ -1,20 +1,19 @@
 -- THE THEOREM: every accepted step, of whatever item, keeps the tables in order, within their sizes, and every number brought once.
-use mathlib.Core.Path.{_≡_, refl, subst}
-use mathlib.Core.Bool.{Bool, true, false, cond}
+use mathlib.Core.Path.{_≡_, refl}
+use mathlib.Core.Bool.{true}
 use mathlib.Core.List.{List}
 use mathlib.Core.Option.{Option, none}
 use native.Mathlib.Omega.{arith}
 use Rattle.sorted.specs.Table.{Sorted}
-use Rattle.sorted.proofs.Never.{never}
 use Rattle.tables.specs.Tables.{Table, windows, documents, cookies, sessionStorage, inputs, pendingDNS, pendingRequests, keyOf, cmp, Tables, noRows}
 use Rattle.tables.specs.Labels.{Label}
 use Rattle.shapes.specs.Events.{Message}
-use Rattle.wim.specs.Nouns.{WindowNumber, Url, Cookie, Target, NewWindow, Existing, Req, Bare, Event, RunScript, Urlbar, Reload, GoForward, GoBack, CloseCorrupt, EncryptedAnswer, PlainAnswer, DnsResolved, Item, Document, NoWindow, NoDocument, NotFresh, Full}
-use Rattle.wim.specs.Program.{Program, reached, topLevel, active, keyless, keyed, Outcome, refused, made, run}
+use Rattle.wim.specs.Nouns.{WindowNumber, Url, Cookie, Target, NewWindow, Existing, Req, Bare, Event, RunScript, Urlbar, Reload, GoForward, GoBack, CloseCorrupt, EncryptedAnswer, PlainAnswer, DnsResolved, Item, Document, NoWindow, NoDocument}
+use Rattle.wim.specs.Program.{Program, reached, topLevel, active, keyless, keyed, made, run}
 use Rattle.wim.specs.Main.{urlbar, displayed, reload, forward, back, closeCorrupt, cookiesIn, program, sendingTo}
-use Rattle.wim.specs.Step.{freshLabels, allFresh, fits, admit, stepTables}
+use Rattle.wim.specs.Step.{freshLabels, allFresh, fits, stepTables}
 use Rattle.wim.specs.Invariant.{Numbered, MadeTables, untouched, stepped}
-use Rattle.invariant.proofs.Numbered.Fresh.{fresh-absent, fits-sizes}
+use Rattle.invariant.proofs.Numbered.Fresh.{fresh-absent, fits-sizes, admitted}
 use Rattle.invariant.proofs.Numbered.Once.{Once}
 use Rattle.invariant.proofs.Numbered.Kept.{kept-self}
 use Rattle.invariant.proofs.Numbered.Orderly.{Orderly, orderly-done, orderly-ask, orderly-cut, orderly-needs, orderly-unless}
@@ -55,16 +54,6 @@ module _ {a : Tables} where
   orderly-program (EncryptedAnswer k x) new = orderly-ask (keyed k) _ (orderly-encrypted x new)
   orderly-program (PlainAnswer x) new = orderly-ask (keyless (x .number)) _ (orderly-plain x new)
   orderly-program (DnsResolved x) new = orderly-resolved x
-
--- what an accepted step passed: 5 and 6
-admitted : (f : List Label) (b : Tables) (o : Outcome) (c : Tables) (m : Option Message) → admit f b o ≡ made c m → (o ≡ made c m) × (allFresh b f ≡ true) × (fits c ≡ true)
-admitted f b (refused r) c m e = never (cc)
-admitted f b (made d n) c m e = go (allFresh b f) (fits d) refl refl e
-  where
-    go : (x y : Bool) → allFresh b f ≡ x → fits d ≡ y → cond x (cond y (made d n) (refused Full)) (refused NotFresh) ≡ made c m → (made d n ≡ made c m) × (allFresh b f ≡ true) × (fits c ≡ true)
-    go true true p q h = let z : d ≡ c = cc in (h, p, subst (λ (v : Tables). fits v ≡ true) z q)
-    go true false p q h = never (cc)
-    go false y p q h = never (cc)
 
 pub numbered-empty : Numbered noRows
 numbered-empty = record {

@@ -80,7 +80,7 @@ module _ (ws : List Window) (ds : List Document) (is : List Input) (F : Framed w
         let x = row-in ws (e .window) (w .0) (w .1) in
         let t = F .tops-there (w .0) (x .0) in
         let u : topAbove steps withRow ds (e .window) ≡ some (t .0) = lines-stay (e .window) (t .0) (ap (topAbove steps ws ds) (x .1) ∙ t .1) in
-        framed-window (t .0) (settled withRow ds steps (r .number) (t .0) l (up-top withRow ds steps (r .number) (t .0) e (is-held withRow ds (r .number) r (d .number) e row-found p f) u))
+        framed-window (t .0) (settled withRow ds steps (r .number) l ∙ up-top withRow ds steps (r .number) (t .0) e (is-held withRow ds (r .number) r (d .number) e row-found p f) u)
 
   -- A NEW DOCUMENT, in a window that is there, with a number that no document has, at a place that follows on another or is the first.
   module _ (d : Document) (s : Sorted (keyOf documents) (cmp documents) ds)

@@ -14,8 +14,7 @@ use Rattle.tables.specs.Tables.{windows, cmp}
 use Rattle.tables.specs.Rows.{sameDocument}
 use Rattle.wim.specs.Nouns.{WindowNumber, DocumentNumber, Window, Document, Input, Under}
 use Rattle.wim.specs.Walks.{windowNumbered, documentNumbered, steps, topAbove}
-use Rattle.wim.proofs.Numbers.{window-eq, same-document}
-use Rattle.wim.proofs.Numbers.{found-document}
+use Rattle.wim.proofs.Numbers.{window-eq, same-document, found-document}
 use Rattle.invariant.proofs.Rooted.Stands.{Follows, Arrives, Stands, row-in}
 use Rattle.invariant.proofs.Rooted.Lines.{top-follows}
 

@@ -63,12 +63,11 @@ module _ (ws : List Window) (ds : List Document) where
   deep : (n : ℕ) (v : WindowNumber) → High n v → suc n ≤ length ws
   deep n v h = pigeon (λ m (r : Window). High m (r .number)) (λ m k r x y. high-one m k (r .number) x y) (suc n) ws (λ m l. heights n v h m (omega arith))
 
-  -- in a table of no more rows, what one step more finds was found without it
-  pub settled : (n : ℕ) (v t : WindowNumber) → length ws ≤ n → topAbove (suc n) ws ds v ≡ some t → topAbove n ws ds v ≡ some t
-  settled n v t l e = go (topAbove n ws ds v) refl
+  -- in a table of no more rows one step more finds nothing more
+  pub settled : (n : ℕ) (v : WindowNumber) → length ws ≤ n → topAbove n ws ds v ≡ topAbove (suc n) ws ds v
+  settled n v l = go (topAbove n ws ds v) (topAbove (suc n) ws ds v) refl refl
     where
-      go : (o : Option WindowNumber) → topAbove n ws ds v ≡ o → topAbove n ws ds v ≡ some t
-      go none f = let z = deep n v (f, (t, e)) in absurd (omega arith)
-      go (some s) f =
-          let g : topAbove (suc n) ws ds v ≡ some s = top-more ws ds n (suc n) v s (omega arith) f in
-          f ∙ sym g ∙ e
+      go : (o p : Option WindowNumber) → topAbove n ws ds v ≡ o → topAbove (suc n) ws ds v ≡ p → o ≡ p
+      go none none e f = refl
+      go none (some t) e f = let z = deep n v (e, (t, f)) in absurd (omega arith)
+      go (some t) p e f = sym (top-more ws ds n (suc n) v t (omega arith) e) ∙ f

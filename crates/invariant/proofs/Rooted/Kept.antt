@@ -1,20 +1,20 @@
 -- Every event keeps the tables standing, so every accepted step keeps them rooted.
 use mathlib.Core.Path.{_≡_, refl, sym, subst₃}
-use mathlib.Core.Bool.{Bool, true, false, cond}
+use mathlib.Core.Bool.{false}
 use mathlib.Core.List.{List, [], _∷_}
 use mathlib.Core.Option.{Option}
 use lib.Dec.{eqb}
 use Rattle.sorted.specs.Table.{keep}
-use Rattle.sorted.proofs.Never.{never}
 use Rattle.tables.specs.Tables.{windows, documents, inputs, Tables, noRows}
 use Rattle.tables.specs.Labels.{Label}
 use Rattle.tables.specs.Rows.{sameHost}
 use Rattle.shapes.specs.Events.{Message}
-use Rattle.wim.specs.Nouns.{WindowNumber, Url, Cookie, Address, Protocol, Plain, Secure, Target, NewWindow, Existing, Answer, DnsAnswer, Event, RunScript, Urlbar, Reload, GoForward, GoBack, CloseCorrupt, EncryptedAnswer, PlainAnswer, DnsResolved, Item, Nobody, Document, Question, Waiting, NotFresh, Full, NoWindow, NoDocument, NoQuestion, NoRequest, Mismatch}
-use Rattle.wim.specs.Program.{observed, Program, reached, topLevel, active, keyed, keyless, question, Outcome, refused, made, run}
+use Rattle.wim.specs.Nouns.{WindowNumber, Url, Cookie, Address, Protocol, Plain, Secure, Target, NewWindow, Existing, Answer, DnsAnswer, Event, RunScript, Urlbar, Reload, GoForward, GoBack, CloseCorrupt, EncryptedAnswer, PlainAnswer, DnsResolved, Item, Nobody, Document, Question, Waiting, NoWindow, NoDocument, NoQuestion, NoRequest, Mismatch}
+use Rattle.wim.specs.Program.{observed, Program, reached, topLevel, active, keyed, keyless, question, made, run}
 use Rattle.wim.specs.Main.{displayed, urlbar, reload, forward, back, closeCorrupt, encryptedAnswer, plainAnswer, goOut, resolved, cookiesIn, program}
-use Rattle.wim.specs.Step.{freshLabels, allFresh, fits, admit, stepTables}
+use Rattle.wim.specs.Step.{freshLabels, stepTables}
 use Rattle.wim.specs.Invariant.{Numbered, Rooted}
+use Rattle.invariant.proofs.Numbered.Fresh.{admitted}
 use Rattle.invariant.proofs.Rooted.Stands.{Stands, rooted-stands, stands-rooted, stands-empty}
 use Rattle.invariant.proofs.Rooted.Walk.{Keeps, kept-run, kept-needs, kept-unless}
 use Rattle.invariant.proofs.Rooted.Fresh.{Fresh, all-fresh}
@@ -79,16 +79,6 @@ module _ (b : Tables) (N : Numbered b) (S : Stands (b windows) (b documents) (b 
   kept-event (PlainAnswer a) new = kept-plain a new (observed (keyless (a .number)) b)
   kept-event (DnsResolved a) new = kept-resolved a (observed (question (a .number)) b)
 
--- an accepted step is a run, with fresh numbers
-admitted : (f : List Label) (b c : Tables) (m : Option Message) (o : Outcome) → admit f b o ≡ made c m → (o ≡ made c m) × (allFresh b f ≡ true)
-admitted f b c m (refused r) e = never (cc)
-admitted f b c m (made d n) e = go (allFresh b f) refl (fits d) e
-  where
-    go : (t : Bool) → allFresh b f ≡ t → (u : Bool) → cond t (cond u (made d n) (refused Full)) (refused NotFresh) ≡ made c m → (made d n ≡ made c m) × (allFresh b f ≡ true)
-    go true g true e = (e, g)
-    go true g false e = never (cc)
-    go false g u e = never (cc)
-
 -- THE EMPTY TABLES ARE ROOTED, AND EVERY ACCEPTED STEP KEEPS THEM SO.
 pub rooted-empty : Rooted noRows
 rooted-empty = stands-rooted noRows stands-empty
@@ -99,5 +89,5 @@ rooted-step i b c m N M R e =
     let S = rooted-stands b R in
     let p : Program = program (i .event) (cookiesIn (i .cookies)) in
     let f : List Label = freshLabels (i .fresh) in
-    let z = admitted f b c m (run p b f) e in
+    let z = admitted f b (run p b f) c m e in
     stands-rooted c (kept-run Whole (Fresh b) p b f (kept-event b N S (i .event) (cookiesIn (i .cookies))) (all-fresh b f (z .1)) c m (z .0) (M .sizes windows))

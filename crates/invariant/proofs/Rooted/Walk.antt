@@ -1,19 +1,19 @@
 -- The walk along a program: what holds of the tables at its end, whatever fresh numbers it is given.
-use mathlib.Core.Path.{_≡_, refl, sym, _∙_, ap, subst}
+use mathlib.Core.Path.{_≡_, refl, sym, ap, subst}
 use mathlib.Core.Logic.{inl, inr}
 use mathlib.Core.Bool.{Bool, true, false, cond}
 use mathlib.Core.List.{List, [], _∷_, map}
 use mathlib.Core.Option.{Option, none, some}
 use Prim.Native.Nat.{ℕ}
-use borrow.Author.Tests.{eqb-true}
 use lib.Dec.{eqb}
 use Rattle.sorted.specs.Table.{In}
 use Rattle.sorted.proofs.Never.{never}
 use Rattle.tables.specs.Tables.{Tables, update, apply}
-use Rattle.tables.specs.Labels.{Kind, window, request, dns, key, document, host, code, Label}
+use Rattle.tables.specs.Labels.{code, Label}
 use Rattle.shapes.specs.Events.{Message}
 use Rattle.wim.specs.Nouns.{Missing, NotFresh}
 use Rattle.wim.specs.Program.{observed, Program, ask, edit, revise, bring, refuse, done, needs, stopIf, refuseUnless, Outcome, refused, made, run}
+use Rattle.invariant.proofs.Numbered.Fresh.{of-kind}
 
 -- `P` holds at the end, where fresh numbers are brought of which `F` is known
 abbrev pub Keeps : (Tables → Type 0) → (Label → Type 0) → Program → Tables → Type 0
@@ -23,22 +23,6 @@ Keeps P F (revise t g p) b = Keeps P F p (update t (map g) b)
 Keeps P F (bring κ k) b = (n : ℕ) → F (κ, n) → Keeps P F (k n) b
 Keeps P F (refuse r) b = Unit {0}
 Keeps P F (done m) b = P b
-
--- kinds are told apart by their codes
-kindOf : ℕ → Kind
-kindOf n = cond (eqb n 0) window (cond (eqb n 1) request (cond (eqb n 2) dns (cond (eqb n 3) key (cond (eqb n 4) document host))))
-
-kind-coded : (κ : Kind) → kindOf (code κ) ≡ κ
-unfolding kindOf
-kind-coded window = refl
-kind-coded request = refl
-kind-coded dns = refl
-kind-coded key = refl
-kind-coded document = refl
-kind-coded host = refl
-
-same-kind : (κ ν : Kind) → eqb (code κ) (code ν) ≡ true → ν ≡ κ
-same-kind κ ν e = sym (kind-coded ν) ∙ ap kindOf (sym (eqb-true (code κ) (code ν) e)) ∙ kind-coded κ
 
 module _ (P : Tables → Type 0) (F : Label → Type 0) where
   -- A RUN OF SUCH A PROGRAM ends as it says.
@@ -51,7 +35,7 @@ module _ (P : Tables → Type 0) (F : Label → Type 0) where
   kept-run (bring κ k) b (l ∷ f) h x c m e = go (eqb (code κ) (code (l .0))) refl e (λ y. kept-run (k (l .1)) b f y (λ j i. x j (inr i)) c m)
     where
       go : (t : Bool) → eqb (code κ) (code (l .0)) ≡ t → cond t (run (k (l .1)) b f) (refused NotFresh) ≡ made c m → (Keeps P F (k (l .1)) b → run (k (l .1)) b f ≡ made c m → P c) → P c
-      go true g e ih = ih (h (l .1) (subst (λ (ν : Kind). F (ν, l .1)) (same-kind κ (l .0) g) (x l (inl refl)))) e
+      go true g e ih = ih (h (l .1) (subst F (sym (of-kind κ l g)) (x l (inl refl)))) e
       go false g e ih = never (cc)
   kept-run (refuse r) b f h x c m e = never (cc)
   kept-run (done o) b [] h x c m e = let q : b ≡ c = outcome e in subst P q h

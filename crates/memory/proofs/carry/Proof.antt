@@ -1,9 +1,9 @@
 -- The loop copies one number after the other; those that are yet to be read are as they were.
 use Prim.Native.Nat.{_-_}
-use mathlib.Core.Path.{refl, sym, _∙_}
+use mathlib.Core.Path.{refl}
 use native.Mathlib.Omega.{arith}
 use borrow.Author.Needs.{needs}
-use lib.ListN.{length, drop, length-drop}
+use lib.ListN.{drop, length-drop}
 use Rattle.memory.specs.Rows.{total}
 use Rattle.memory.proofs.Moves.{Pasting, paste-start, carry-next, carried}
 use Rattle.memory.proofs.carry.Statement.{statement}

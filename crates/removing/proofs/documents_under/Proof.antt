@@ -8,10 +8,10 @@ use lib.ListN.{take}
 use Rattle.sorted.proofs.Count.{mapped}
 use Rattle.tables.specs.Rows.{oneOf}
 use Rattle.memory.specs.Rows.{table}
+use Rattle.memory.proofs.Picking.{Gathering, gather-start, gather-skips, gather-takes, gather-end, gather-below}
 use Rattle.layouts.specs.Tables.{windowsIn, documentsIn}
 use Rattle.wim.specs.Nouns.{DocumentNumber, Window, Document}
 use Rattle.wim.specs.Walks.{steps, isUnder, removal}
-use Rattle.removing.proofs.Gather.{Gathering, gather-start, gather-room, gather-skips, gather-takes, gather-end}
 use Rattle.removing.proofs.documents_under.Statement.{statement}
 use Rattle.removing.proofs.documents_under.Tie as tie
 
@@ -19,7 +19,7 @@ abbrev leaves : List Window → List Document → List DocumentNumber → Docume
 leaves ws ds gone d = oneOf (d .number) gone || isUnder steps ws ds gone (d .window)
 
 abbrev Inv-loop : tie.InvT-loop
-Inv-loop m gone n out₀ j₀ i₀ out j i = Gathering documentsIn (leaves (table windowsIn m) (table documentsIn m) (take (gone .count) (gone .rows))) (λ (d : Document). d .number) m 64 n (out .rows) i j
+Inv-loop m gone n out₀ j₀ i₀ out j i = Gathering documentsIn (leaves (table windowsIn m) (table documentsIn m) (take (gone .count) (gone .rows))) (λ (d : Document). d .number) m n (out .rows) i j
 
 abbrev μ-loop : tie.MeasureT-loop
 μ-loop m gone n out₀ j₀ i₀ out j i = n - i
@@ -29,11 +29,11 @@ unfolding removal
 documents-under-spec = tie.close (tie.spec Inv-loop μ-loop
     (λ c κs. tt)
     (λ c κs. tt)
-    (λ c. gather-start (search mapped) (omega arith) (c .before .size .ensures))
+    (λ c. gather-start (search mapped) (c .before .size .ensures))
     (λ c κs. tt)
     (λ c κs. tt)
     (λ c. omega arith)
-    (λ c. omega (arith, gather-room (c .before .before .before .before .before .loop .inv) (omega arith)))
+    (λ c. omega (arith, gather-below (c .before .before .before .before .before .loop .inv)))
     (λ c. omega arith)
     (λ c. omega arith)
     (λ c. omega arith)

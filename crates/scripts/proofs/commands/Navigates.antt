@@ -20,17 +20,16 @@ use Rattle.stepping.specs.Wanted.{Unwanted}
 use Rattle.stepping.specs.Holds.{Carries}
 use Rattle.stepping.specs.Gives.{Refuses, Silent}
 use Rattle.stepping.specs.Performs.{Performs}
-use Rattle.stepping.proofs.Ways.{refuses, performs-as}
+use Rattle.stepping.proofs.Carry.{then-roomy}
+use Rattle.stepping.proofs.Ways.{unfresh, silently, performs-as}
 use Rattle.documents.specs.Which.{numberOf}
 use Rattle.removing.specs.Gone.{removed}
 use Rattle.history.specs.declared.Towards.{Towards}
 use Rattle.history.specs.declared.Way.{Way}
 use Rattle.history.specs.Directions.{nav, way, leads, turn, turned}
-use Rattle.history.proofs.Ways.{stops, turns, ran}
+use Rattle.history.proofs.Ways.{nowhere, turns-stale, turns-over}
 use Rattle.storing.specs.declared.scene.Scene.{Scene}
 use Rattle.storing.specs.Stored.{storing, stored}
-use Rattle.storing.proofs.scene.Stores.{then-roomy}
-use Rattle.scripts.proofs.commands.Ways.{unfresh, silently}
 
 module _ (s : Scene) (x : WindowNumber) (f : Fresh) (m : List ℕ) (r : Performed) (v : WindowNumber) (t : v ≡ observed (navigated (s .window) (s .document) x) (view m)) where
   -- A1: the window is found, and the rest goes on from there
@@ -43,26 +42,23 @@ module _ (s : Scene) (x : WindowNumber) (f : Fresh) (m : List ℕ) (r : Performe
     abbrev going : Program
     going = getNavigableWindow (s .window) (s .document) x (λ (u : WindowNumber). nav q u (storing s))
 
-    abbrev turning : Program
-    turning = storing s (turn v (l .from) (l .to))
+    found : run going (view m) (freshLabels f) ≡ run (nav q v (storing s)) (view m) (freshLabels f)
+    found = lands (λ (u : WindowNumber). nav q u (storing s)) (freshLabels f)
 
-    found : l .found ≡ true → run going (view m) (freshLabels f) ≡ run turning (view m) (freshLabels f)
-    found h = lands (λ (u : WindowNumber). nav q u (storing s)) (freshLabels f) ∙ turns (storing s) v q (view m) (freshLabels f) l e h
-
-    turned-stored : run turning (view m) [] ≡ made (turned v (l .from) (l .to) (stored s (view m))) none
+    turned-stored : run (storing s (turn v (l .from) (l .to))) (view m) [] ≡ run (turn v (l .from) (l .to)) (stored s (view m)) []
     unfolding run
-    turned-stored = ran v (l .from) (l .to) (stored s (view m))
+    turned-stored = refl
 
-    pub nowhere : l .found ≡ false → Refuses Stopped r → Performs going f m m r
-    nowhere h a = refuses going f (lands (λ (u : WindowNumber). nav q u (storing s)) (freshLabels f) ∙ stops (storing s) v q (view m) (freshLabels f) l e h) a
+    pub stopped : l .found ≡ false → Refuses Stopped r → Performs going f m m r
+    stopped = nowhere going (storing s) v q f found l e
 
     pub stale : {b : Bool} → l .found ≡ true → Unwanted f b → b ≡ false → Refuses NotFresh r → Performs going f m m r
-    stale h u z a = performs-as going turning (found h) (unfresh turning f u tt z a)
+    stale h u = turns-stale going (storing s) v q f found l e h u tt
 
     pub moves : {b room : Bool} {m₁ n : List ℕ} → l .found ≡ true → Unwanted f b → b ≡ true
         → Carries (stored s) (sessionStorage ∷ localStorage ∷ cookies ∷ []) (localStorage ∷ sessionStorage ∷ []) m m₁ room
         → Carries (turned v (l .from) (l .to)) [] [] m₁ n true → Silent room r → Performs going f m n r
-    moves h u z i j a = performs-as going turning (found h) (silently turning f u turned-stored z (then-roomy refl i j) a)
+    moves h u = turns-over going (storing s) v q f found l e h u turned-stored
 
   -- CLOSE: what goes with the window is taken out
   module _ (gone : Removal) (g : gone ≡ withWindow v (removal (view m windows) (view m documents) (map numberOf (documentsOf (view m documents) v)))) where

@@ -17,17 +17,14 @@ use Rattle.sorted.specs.Table.{put, keep, looked}
 use Rattle.tables.specs.Tables.{windows, documents, inputs, Tables, apply}
 use Rattle.tables.specs.Labels.{Label}
 use Rattle.tables.specs.Rows.{sameDocument, originOf}
-use Rattle.tables.proofs.Update.{same-tables}
 use Rattle.wim.specs.Walks.{steps, reachedFrom, activeDocument}
 use Rattle.wim.specs.Program.{observed, ask, active, edit, done, needs, Outcome, refused, made, run}
 use Rattle.wim.specs.Script.{isFor, file, deliver, postMessage}
+use Rattle.stepping.proofs.Carry.{unedited}
 use Rattle.walks.proofs.Looked.{looked-yes, looked-no}
 use Rattle.storing.specs.declared.scene.Scene.{Scene}
 use Rattle.storing.specs.Stored.{storing, stored}
 use Rattle.storing.specs.Next.{nextInput}
-
-unedited : (w : Tables) → apply inputs [] w ≡ w
-unedited w = same-tables (apply inputs [] w) w refl refl refl refl refl refl refl refl refl
 
 pub ran-delivered : (s : Scene) (row : Input) (w : Tables) → run (storing s (edit inputs (put row ∷ []) (done none))) w [] ≡ made (apply inputs (put row ∷ []) (stored s w)) none
 unfolding run
@@ -67,5 +64,5 @@ module _ (s : Scene) (message : ℕ) (to : Addressee) (w : Tables) (f : List Lab
 
   pub unheard : (b : Bool) (d : Document) → (b && isFor to d) ≡ false → delivers (looked b d) ≡ run (storing s (done none)) w f
   unfolding run deliver observed
-  unheard true d e = ap (files d) e ∙ ap (λ (v : Tables). run (done none) v f) (unedited (stored s w))
+  unheard true d e = ap (files d) e ∙ ap (λ (v : Tables). run (done none) v f) (unedited inputs (stored s w))
   unheard false d e = refl

@@ -1,5 +1,4 @@
 -- None of the five is given.
-use mathlib.Core.Path.{_∙_}
 use Rattle.stepping.proofs.Ways.{wants-none}
 use Rattle.stepping.proofs.brings_none.Statement.{statement}
 use Rattle.stepping.proofs.brings_none.Tie as tie

@@ -1,5 +1,4 @@
 -- Nothing is sent.
-use mathlib.Core.Path.{_∙_}
 use Rattle.stepping.proofs.silent.Statement.{statement}
 use Rattle.stepping.proofs.silent.Tie as tie
 

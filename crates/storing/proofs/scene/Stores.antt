@@ -1,26 +1,18 @@
 -- What every script step stores, put together from its four changes.
 use mathlib.Core.Path.{_≡_, refl, sym, subst}
-use mathlib.Core.Bool.{Bool, true, false, _&&_}
-use mathlib.Core.List.{List, [], _∷_, _++_, map}
+use mathlib.Core.Bool.{Bool, true, _&&_}
+use mathlib.Core.List.{List, [], _∷_, map}
 use Prim.Native.Nat.{ℕ}
 use lib.ListN.{take}
 use Rattle.types.specs.declared.Origin.{Origin}
-use Rattle.tables.specs.Tables.{Table, documents, cookies, localStorage, sessionStorage, Tables, update, apply}
+use Rattle.tables.specs.Tables.{documents, cookies, localStorage, sessionStorage, Tables, update, apply}
 use Rattle.tables.specs.Rows.{originOf, withState, changing}
 use Rattle.wim.specs.Cookies.{storeAll}
 use Rattle.wim.specs.Script.{storeLocal, storeSession}
-use Rattle.stepping.specs.Holds.{apart, Carries}
-use Rattle.stepping.proofs.Carry.{carries-then}
+use Rattle.stepping.specs.Holds.{Carries}
+use Rattle.stepping.proofs.Carry.{carries-then, then-roomy, room-as}
 use Rattle.storing.specs.declared.scene.Scene.{Scene}
 use Rattle.storing.specs.Stored.{stored}
-
-and-true : (a : Bool) → (a && true) ≡ a
-and-true true = refl
-and-true false = refl
-
--- a change, and behind it one that wants no room
-pub then-roomy : {f g : Tables → Tables} {ps qs ds es : List Table} {k m n : List ℕ} {a : Bool} → apart es ps ≡ true → Carries f ps ds k m a → Carries g qs es m n true → Carries (λ w. g (f w)) (qs ++ ps) (ds ++ es) k n a
-then-roomy {f} {g} {ps} {qs} {ds} {es} {k} {m} {n} {a} e x y = subst (λ (b : Bool). Carries (λ (w : Tables). g (f w)) (qs ++ ps) (ds ++ es) k n b) (and-true a) (carries-then e x y)
 
 pub stores : (s : Scene) (o : Origin) {m m₁ m₂ m₃ n : List ℕ} {a b c r : Bool} → o ≡ originOf (s .document)
     → Carries (apply cookies (storeAll (o .host) (take (s .merged .count) (s .merged .rows)))) (cookies ∷ []) [] m m₁ a
@@ -29,8 +21,8 @@ pub stores : (s : Scene) (o : Origin) {m m₁ m₂ m₃ n : List ℕ} {a b c r :
     → Carries (update documents (map (changing (s .document .number) (withState (s .output .state))))) [] [] m₃ n true
     → r ≡ ((a && b) && c)
     → Carries (stored s) (sessionStorage ∷ localStorage ∷ cookies ∷ []) (localStorage ∷ sessionStorage ∷ []) m n r
-stores s o {m} {m₁} {m₂} {m₃} {n} {a} {b} {c} {r} e h i j k t =
-    subst (λ (x : Bool). Carries (stored s) (sessionStorage ∷ localStorage ∷ cookies ∷ []) (localStorage ∷ sessionStorage ∷ []) m n x) (sym t)
+stores s o {m} {n = n} {a} {b} {c} e h i j k t =
+    room-as (sym t)
     (subst (λ (p : Origin). Carries
     (λ (w : Tables). update documents (map (changing (s .document .number) (withState (s .output .state))))
     (apply sessionStorage (storeSession p (s .top) (s .output .session)) (apply localStorage (storeLocal p (s .output .local)) (apply cookies (storeAll (p .host) (take (s .merged .count) (s .merged .rows))) w))))

@@ -1,8 +1,7 @@
 -- A value 0 takes the row away, another is put in.
 use borrow.Author.Tests.{eq-eqb, ne-eqb}
 use Rattle.tables.specs.Tables.{sessionStorage}
-use Rattle.stepping.proofs.Carry.{put-carries, keep-carries}
-use Rattle.storing.proofs.Wide.{and-puts, and-drops}
+use Rattle.stepping.proofs.Carry.{and-puts, and-drops, put-carries, keep-carries}
 use Rattle.storing.proofs.store_session.Statement.{statement}
 use Rattle.storing.proofs.store_session.Tie as tie
 

@@ -4,11 +4,10 @@ use Rattle.tables.specs.Tables.{windows}
 use Rattle.wim.specs.Script.{iframeIn}
 use Rattle.browser.specs.View.{view}
 use Rattle.stepping.specs.Wanted.{wantsOpen}
-use Rattle.stepping.proofs.Carry.{put-carries}
+use Rattle.stepping.proofs.Carry.{room-as, carries-then, put-carries}
 use Rattle.stepping.proofs.Ways.{stales}
 use Rattle.storing.specs.Stored.{storing}
 use Rattle.sending.proofs.Ways.{ends-sending}
-use Rattle.script_loads.proofs.Into.{carries-both}
 use Rattle.script_loads.proofs.Hung.{brings-frame, frame-sends}
 use Rattle.script_loads.proofs.frames.hang.Statement.{statement}
 use Rattle.script_loads.proofs.frames.hang.Tie as tie
@@ -21,7 +20,7 @@ returns c =
     ends-sending (iframeIn (a .s .document) (storing (a .s)) (a .url) (a .e)) (a .f) o wantsOpen
     (sym (c .before .before .before .before .before .before .before .before .before .before .before .before .before .ready .ensures) ∙ c .before .before .before .before .before .before .before .before .before .before .before .before .if1 .taken)
     (frame-sends (a .s) (a .url) (a .e) (a .f) (view (a .m .now)) row o (c .before .before .before .before .before .before .before .before .frame-window .ensures) (c .before .before .before .before .before .before .before .frame-sending .ensures))
-    (carries-both refl (c .before .before .both .ensures) (c .before .before .before .before .before .store .ensures) (put-carries windows (c .before .before .before .put .ensures)))
+    (room-as (sym (c .before .before .both .ensures)) (carries-then refl (c .before .before .before .before .before .store .ensures) (put-carries windows (c .before .before .before .put .ensures))))
     (c .http-send .ensures)
 
 returns-2 : tie.Need-returns-2

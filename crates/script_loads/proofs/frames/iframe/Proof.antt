@@ -1,8 +1,8 @@
 -- Under the script's own document, or under GETWINDOW's.
 use borrow.Author.Needs.{needs}
 use Rattle.wim.specs.Script.{iframe}
+use Rattle.stepping.proofs.Ways.{performs-at}
 use Rattle.storing.specs.Stored.{storing}
-use Rattle.script_loads.proofs.Into.{performs-at}
 use Rattle.script_loads.proofs.Hung.{frame-in-own, frame-in-other}
 use Rattle.script_loads.proofs.frames.iframe.Statement.{statement}
 use Rattle.script_loads.proofs.frames.iframe.Tie as tie

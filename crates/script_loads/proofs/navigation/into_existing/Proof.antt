@@ -2,9 +2,9 @@
 use mathlib.Core.Path.{refl, sym, _∙_}
 use Rattle.browser.specs.View.{view}
 use Rattle.stepping.specs.Wanted.{wantsSend}
+use Rattle.stepping.proofs.Carry.{then-roomy}
 use Rattle.stepping.proofs.Ways.{stales}
 use Rattle.storing.specs.Stored.{storing}
-use Rattle.storing.proofs.scene.Stores.{then-roomy}
 use Rattle.sending.proofs.Ways.{ends-sending}
 use Rattle.script_loads.specs.Navigation.{sentInto, intoExisting}
 use Rattle.script_loads.proofs.Into.{brings-existing, existing-sends}

@@ -4,13 +4,12 @@ use Rattle.tables.specs.Tables.{windows}
 use Rattle.wim.specs.Script.{newTopWindow}
 use Rattle.browser.specs.View.{view}
 use Rattle.stepping.specs.Wanted.{wantsOpen}
-use Rattle.stepping.proofs.Carry.{put-carries}
+use Rattle.stepping.proofs.Carry.{room-as, carries-then, then-roomy, put-carries}
 use Rattle.stepping.proofs.Ways.{stales}
 use Rattle.storing.specs.Stored.{storing}
-use Rattle.storing.proofs.scene.Stores.{then-roomy}
 use Rattle.sending.proofs.Ways.{ends-sending}
 use Rattle.script_loads.specs.Navigation.{sentInto, openerBy, intoNew}
-use Rattle.script_loads.proofs.Into.{carries-both, brings-new, new-sends}
+use Rattle.script_loads.proofs.Into.{brings-new, new-sends}
 use Rattle.script_loads.proofs.navigation.into_new.Statement.{statement}
 use Rattle.script_loads.proofs.navigation.into_new.Tie as tie
 
@@ -23,7 +22,7 @@ returns c =
     ends-sending (intoNew (storing (a .s)) opener (sentInto (a .s .document) (a .l))) (a .f) o wantsOpen
     (sym (c .before .before .before .before .before .before .before .before .before .before .before .before .before .before .before .before .ready .ensures) ∙ c .before .before .before .before .before .before .before .before .before .before .before .before .before .before .before .if1 .taken)
     (new-sends (a .s) (sentInto (a .s .document) (a .l)) (a .f) (view (a .m .now)) o opener row (c .before .before .before .before .before .before .before .before .before .before .new-top-window .ensures ∙ ap (newTopWindow (a .f .window)) (c .before .before .before .before .before .before .before .before .before .before .before .opener-by .ensures)) (c .before .before .before .before .before .before .before .before .before .sending-into .ensures))
-    (then-roomy refl (carries-both refl (c .before .before .both .ensures) (c .before .before .before .before .before .before .before .store .ensures) (put-carries windows (c .before .before .before .before .before .put .ensures))) (c .before .before .before .cancel .ensures))
+    (then-roomy refl (room-as (sym (c .before .before .both .ensures)) (carries-then refl (c .before .before .before .before .before .before .before .store .ensures) (put-carries windows (c .before .before .before .before .before .put .ensures)))) (c .before .before .before .cancel .ensures))
     (c .http-send .ensures)
 
 returns-2 : tie.Need-returns-2

@@ -1,7 +1,8 @@
 -- The target decides.
 use borrow.Author.Needs.{needs}
+use Rattle.stepping.proofs.Ways.{performs-at}
 use Rattle.script_loads.specs.Navigation.{sentInto, openerBy}
-use Rattle.script_loads.proofs.Into.{performs-at, navigates-existing}
+use Rattle.script_loads.proofs.Into.{navigates-existing}
 use Rattle.script_loads.proofs.Linked.{loading}
 use Rattle.script_loads.proofs.navigation.navigate.Statement.{statement}
 use Rattle.script_loads.proofs.navigation.navigate.Tie as tie

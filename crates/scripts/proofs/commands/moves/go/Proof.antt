@@ -1,5 +1,5 @@
 -- The window that the script may navigate, and its history.
-use Rattle.scripts.proofs.commands.Navigates.{nowhere, stale, moves}
+use Rattle.scripts.proofs.commands.Navigates.{stopped, stale, moves}
 use Rattle.scripts.proofs.commands.moves.go.Statement.{statement}
 use Rattle.scripts.proofs.commands.moves.go.Tie as tie
 
@@ -22,7 +22,7 @@ returns-3 c =
     let a = c .before .before .before .before .before .before .args in
     let t = c .before .before .before .before .target in
     let l = c .before .before .look in
-    nowhere (a .s) (a .x) (a .f) (a .m .now) _ (t .result) (t .ensures) (a .q) (l .result) (l .ensures) (c .before .if1 .left) (c .refuse2 .ensures)
+    stopped (a .s) (a .x) (a .f) (a .m .now) _ (t .result) (t .ensures) (a .q) (l .result) (l .ensures) (c .before .if1 .left) (c .refuse2 .ensures)
 
 pub go-spec : {M : Type 1} → statement M
 go-spec = tie.close (tie.spec (λ c κs. tt) (λ c κs. tt) (λ c κs. tt) (λ c κs. tt) (λ c κs. tt) (λ c κs. tt) returns (λ c κs. tt) returns-2 (λ c κs. tt) returns-3)

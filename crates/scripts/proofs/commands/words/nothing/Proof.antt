@@ -2,8 +2,8 @@
 use mathlib.Core.Option.{none}
 use Rattle.wim.specs.Program.{done}
 use Rattle.browser.specs.View.{view}
+use Rattle.stepping.proofs.Ways.{unfresh, silently}
 use Rattle.storing.specs.Stored.{storing}
-use Rattle.scripts.proofs.commands.Ways.{unfresh, silently}
 use Rattle.scripts.proofs.commands.Sets.{ran-nothing}
 use Rattle.scripts.proofs.commands.words.nothing.Statement.{statement}
 use Rattle.scripts.proofs.commands.words.nothing.Tie as tie

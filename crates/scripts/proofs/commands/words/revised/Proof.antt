@@ -5,10 +5,9 @@ use Rattle.tables.specs.Tables.{documents}
 use Rattle.wim.specs.Program.{revise, done}
 use Rattle.browser.specs.View.{view}
 use Rattle.documents.specs.Which.{changes}
-use Rattle.stepping.proofs.Carry.{revised-carries}
+use Rattle.stepping.proofs.Carry.{then-roomy, revised-carries}
+use Rattle.stepping.proofs.Ways.{unfresh, silently}
 use Rattle.storing.specs.Stored.{storing}
-use Rattle.storing.proofs.scene.Stores.{then-roomy}
-use Rattle.scripts.proofs.commands.Ways.{unfresh, silently}
 use Rattle.scripts.proofs.commands.Sets.{ran-revised}
 use Rattle.scripts.proofs.commands.words.revised.Statement.{statement}
 use Rattle.scripts.proofs.commands.words.revised.Tie as tie
