@@ -1,4 +1,4 @@
-// What a step hands back. The memory is changed in place, so no browser is in it, and neither of these looks at the memory.
+// How a step ends, and what it hands back: nothing of the memory, which it has changed in place. Beside it refusal 5.
 pub mod fresh; // refusal 5: just the fresh numbers that a step wants, and none of them stands anywhere
 
 use types::Fresh;
