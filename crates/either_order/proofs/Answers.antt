@@ -24,7 +24,7 @@ use Rattle.wim.specs.History.{placeOf}
 use Rattle.wim.specs.Script.{remove, file}
 use Rattle.wim.specs.Response.{actOnHeaders, whereTo, withFragmentOf, redirection, laterThan, upTo, newDocument, Course, nothingMore, windowCourse, scriptCourse, courseOf, takes, processResponse}
 use Rattle.wim.specs.Main.{encryptedAnswer, plainAnswer, goOut, resolved, program}
-use Rattle.wim.specs.LocalSteps.{asked, awaited, home, topOfDocument, topOf, hosts, urlHost, redirectHost, answerHosts}
+use Rattle.wim.specs.LocalSteps.{asked, awaited, home, topOfDocument, topOf, hosts, urlHost, followedHost, redirectHost, answerHosts}
 use Rattle.wim.proofs.Walks.{reached-from, reached-top}
 use Rattle.tables.proofs.Update.{linear}
 use Rattle.wim.proofs.Numbers.{found-document}
@@ -79,7 +79,7 @@ later-in (some a) ds d i = in-keep (λ (d : Document). ltb (a .place) (d .place)
 module _ (F : Part) (b : Tables) (W : Whole F b) (w : Waiting) (a : Answer) (new : List Cookie) (few : length new ≤ 4)
     (orq : F .own (request, w .request .number .0) ≡ true) (oh : F .own (host, w .request .host .0) ≡ true) (s : sees F (leads (w .reference)) ≡ true)
     (ol : (t : WindowNumber) → topOfLabel b (leads (w .reference)) ≡ some t → F .own (leads (w .reference)) ≡ true)
-    (ore : (h : Host) → In h (redirectHost a (w .reference)) → F .own (host, h .0) ≡ true) where
+    (ore : (h : Host) → In h (redirectHost b a (w .reference)) → F .own (host, h .0) ≡ true) where
   -- headers are acted upon, and the answer goes on
   abbrev goes : Course → Program
   goes c = actOnHeaders w a new (takes c w a)
@@ -145,8 +145,11 @@ module _ (F : Part) (b : Tables) (W : Whole F b) (w : Waiting) (a : Answer) (new
     where
       to : (found : Option WindowNumber) → observed (reached v) b ≡ found → Keeps F none-yet (windowCourse v found (whereTo (a .status) (a .location)) (a .body) goes) b
       to none f = headers-only
-      to (some top) f = kept-window v top (whereTo (a .status) (a .location)) (a .body) (λ h i. ore h (subst (λ (r : Reference). In h (redirectHost a r)) (sym e) i)) ov
+      to (some top) f = kept-window v top (whereTo (a .status) (a .location)) (a .body) (λ h i. ore h (subst (λ (r : Reference). In h (redirectHost b a r)) (sym e) (followed h i))) ov
         where
+          followed : (h : Host) → In h (urlHost (whereTo (a .status) (a .location))) → In h (redirectHost b a (Req v))
+          followed h i = subst (λ (o : Option WindowNumber). In h (followedHost o (whereTo (a .status) (a .location)))) (sym f) i
+
           ov : F .own (window, v .0) ≡ true
           ov = ap (λ (r : Reference). F .own (leads r)) (sym e) ∙ ol top (ap (λ (r : Reference). topOfLabel b (leads r)) e ∙ reached-top (b windows) (b documents) steps v top f)
   kept-process (Xhr n matching) e = (ap (λ (r : Reference). sees F (leads r)) (sym e) ∙ s, kept-script-answer n matching (whereTo (a .status) (a .location)) (observed (listening n) b) refl e)
@@ -154,13 +157,13 @@ module _ (F : Part) (b : Tables) (W : Whole F b) (w : Waiting) (a : Answer) (new
 -- whichever way the request is found
 module _ (F : Part) (b : Tables) (W : Whole F b) (a : Answer) (new : List Cookie) (few : length new ≤ 4) (w : Waiting) (o : Option Waiting) (e : o ≡ some w)
     (own-found : (l : Label) → In l (waitingNumber o) → F .own l ≡ true) (see-home : (l : Label) → awaited o ≡ some l → sees F l ≡ true)
-    (own-home : (l : Label) (t : WindowNumber) → awaited o ≡ some l → topOfLabel b l ≡ some t → F .own l ≡ true) (own-hosts : (h : Host) → In h (answerHosts a o) → F .own (host, h .0) ≡ true) where
+    (own-home : (l : Label) (t : WindowNumber) → awaited o ≡ some l → topOfLabel b l ≡ some t → F .own l ≡ true) (own-hosts : (h : Host) → In h (answerHosts b a o) → F .own (host, h .0) ≡ true) where
   kept-found : Keeps F none-yet (processResponse (w .reference) w a new) b
   kept-found = kept-process F b W w a new few
       (own-found (request, w .request .number .0) (subst (λ (x : Option Waiting). In (request, w .request .number .0) (waitingNumber x)) (sym e) (inl refl)))
-      (own-hosts (w .request .host) (subst (λ (x : Option Waiting). In (w .request .host) (answerHosts a x)) (sym e) (inl refl)))
+      (own-hosts (w .request .host) (subst (λ (x : Option Waiting). In (w .request .host) (answerHosts b a x)) (sym e) (inl refl)))
       (see-home (leads (w .reference)) (ap awaited e)) (λ t h. own-home (leads (w .reference)) t (ap awaited e) h)
-      (λ h i. own-hosts h (subst (λ (x : Option Waiting). In h (answerHosts a x)) (sym e) (inr i))) (w .reference) refl
+      (λ h i. own-hosts h (subst (λ (x : Option Waiting). In h (answerHosts b a x)) (sym e) (inr i))) (w .reference) refl
 
 pub kept-encrypted : (F : Part) (b : Tables) → Whole F b → (k : KeyNumber) (a : Answer) (new : List Cookie) → length new ≤ 4 → Seeds F (EncryptedAnswer k a) b → Keeps F none-yet (program (EncryptedAnswer k a) new) b
 unfolding program encryptedAnswer home hosts

@@ -36,10 +36,10 @@ module _ (b : Tables) (N : Numbered b) where
 
   -- a request that waits, found by its key or by its number
   of-waiting : (e : Event) (a : Answer) (o : Option Waiting) (w : Waiting) (l : Label) → o ≡ some w → In w (b pendingRequests) → l ≡ (request, w .request .number .0)
-      → stands e b ≡ topOfHome b (awaited o) → hosts e b ≡ answerHosts a o → oursAt b (stands e b) (hosts e b) l ≡ true
+      → stands e b ≡ topOfHome b (awaited o) → hosts e b ≡ answerHosts b a o → oursAt b (stands e b) (hosts e b) l ≡ true
   of-waiting e a o w l f i k s h =
       of-entry e l (w .reference) (w .request .host) (ap (λ (v : Label). colour b (v .0) (v .1)) k ∙ colour-waiting b N w i) (s ∙ ap (λ (x : Option Waiting). topOfHome b (awaited x)) f)
-      (subst (In (w .request .host)) (sym (h ∙ ap (answerHosts a) f)) (inl refl))
+      (subst (In (w .request .host)) (sym (h ∙ ap (answerHosts b a) f)) (inl refl))
 
   of-question : (e : Event) (o : Option Question) (q : Question) (l : Label) → o ≡ some q → In q (b pendingDNS) → l ≡ (dns, q .number .0)
       → stands e b ≡ topOfHome b (asked o) → hosts e b ≡ questionHost o → oursAt b (stands e b) (hosts e b) l ≡ true
@@ -86,7 +86,7 @@ module _ (b : Tables) (N : Numbered b) where
       go none g = inl (ap (λ (v : Label). colour b (v .0) (v .1)) i ∙ ap (waitingColour b) g)
       go (some w) g =
           inr (of-entry (EncryptedAnswer k a) l (w .reference) (w .request .host) (ap (λ (v : Label). colour b (v .0) (v .1)) i ∙ ap (waitingColour b) g)
-          (ap (λ (x : Option Waiting). topOfHome b (awaited x)) g) (subst (In (w .request .host)) (sym (ap (answerHosts a) g)) (inl refl)))
+          (ap (λ (x : Option Waiting). topOfHome b (awaited x)) g) (subst (In (w .request .host)) (sym (ap (answerHosts b a) g)) (inl refl)))
   sought-mine (PlainAnswer a) new f c m acc l (inl i) = go (observed (keyless (a .number)) b) refl acc
     where
       go : (o : Option Waiting) → observed (keyless (a .number)) b ≡ o → run (plainAnswer a new o) b f ≡ made c m → Mine (PlainAnswer a) b l

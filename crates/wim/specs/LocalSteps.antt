@@ -8,7 +8,7 @@ use Rattle.tables.specs.Labels.{Kind, window, request, dns, key, document, host
 use Rattle.tables.specs.Rows.{sameWindow}
 use Rattle.wim.specs.Nouns.{WindowNumber, Host, Url, Reference, Req, Xhr, Target, NewWindow, Existing, Holder, Itself, Within, Command, Nothing, Href, Iframe, Form, SetScript, SetScriptState, XmlHttpRequest, Back, Forward, Close, PostMessage, Answer, Event, RunScript, Urlbar, Reload, GoForward, GoBack, CloseCorrupt, EncryptedAnswer, PlainAnswer, DnsResolved, Document, Question, Waiting}
 use Rattle.wim.specs.Walks.{documentNumbered, steps, topAbove}
-use Rattle.wim.specs.Program.{active, question, keyless, keyed, observed}
+use Rattle.wim.specs.Program.{reached, active, question, keyless, keyed, observed}
 use Rattle.wim.specs.Response.{whereTo}
 
 -- "HREF, FORM or IFRAME that gives the number of the script's own window"
@@ -114,17 +114,22 @@ abbrev pub urlHost : Option Url → List Host
 urlHost none = []
 urlHost (some u) = u .host ∷ []
 
-abbrev pub redirectHost : Answer → Reference → List Host
-redirectHost a (Req w) = urlHost (whereTo (a .status) (a .location))
-redirectHost a (Xhr d m) = []
+-- a redirect is followed where its window is reached (A8:24); otherwise "headers are acted upon and nothing more"
+abbrev pub followedHost : Option WindowNumber → Option Url → List Host
+followedHost none to = []
+followedHost (some top) to = urlHost to
+
+abbrev pub redirectHost : Tables → Answer → Reference → List Host
+redirectHost b a (Req w) = followedHost (observed (reached w) b) (whereTo (a .status) (a .location))
+redirectHost b a (Xhr d m) = []
 
 abbrev pub questionHost : Option Question → List Host
 questionHost none = []
 questionHost (some q) = q .request .host ∷ []
 
-abbrev pub answerHosts : Answer → Option Waiting → List Host
-answerHosts a none = []
-answerHosts a (some w) = w .request .host ∷ redirectHost a (w .reference)
+abbrev pub answerHosts : Tables → Answer → Option Waiting → List Host
+answerHosts b a none = []
+answerHosts b a (some w) = w .request .host ∷ redirectHost b a (w .reference)
 
 unfoldable pub hosts : Event → Tables → List Host
 hosts (RunScript w out) b = documentHost (observed (active w) b) ++ commandHosts (out .command)
@@ -133,8 +138,8 @@ hosts (Reload w) b = documentHost (observed (active w) b)
 hosts (GoForward w) b = []
 hosts (GoBack w) b = []
 hosts CloseCorrupt b = []
-hosts (EncryptedAnswer k a) b = answerHosts a (observed (keyed k) b)
-hosts (PlainAnswer a) b = answerHosts a (observed (keyless (a .number)) b)
+hosts (EncryptedAnswer k a) b = answerHosts b a (observed (keyed k) b)
+hosts (PlainAnswer a) b = answerHosts b a (observed (keyless (a .number)) b)
 hosts (DnsResolved a) b = questionHost (observed (question (a .number)) b)
 
 -- the numbers that an item names, besides those that it brings
