@@ -5,7 +5,7 @@ use mathlib.Core.List.{List, [], map}
 use Prim.Native.Nat.{ℕ, zero-le, _+_, _≤_, _<_, min}
 use native.Mathlib.Nat.{zero-add}
 use native.Mathlib.Omega.{arith}
-use lib.ListN.{length, take, drop, set}
+use lib.ListN.{length, take, drop, set, length-set}
 use Rattle.sorted.specs.Table.{keep, fill}
 use Rattle.sorted.proofs.Count.{all-rows, next-row, no-row}
 use Rattle.sorted.proofs.Collect.{Collecting, collect-start, collect-skips, collect-takes, collect-end, fill-more, fill-end}
@@ -18,8 +18,12 @@ pub record Gathering {A B : Type 0} (t : Layout A) (p : A → Bool) (f : A → B
   pub most : n ≤ t .capacity
 
 module _ {A B : Type 0} {t : Layout A} {p : A → Bool} {f : A → B} {m : List ℕ} {n : ℕ} where
+  -- into an array with as much room as the table, or more
+  pub gather-with-room : {out : List B} (room : ℕ) → length out ≡ room → t .capacity ≤ room → n ≡ length (table t m) → Gathering t p f m n out 0 0
+  gather-with-room room l h e = let k : n ≡ min (count t m) (t .capacity) = e ∙ counted t m in record { collecting = collect-start (rows-length t m) (omega arith) k; most = omega arith }
+
   pub gather-start : {out : List B} → length out ≡ t .capacity → n ≡ length (table t m) → Gathering t p f m n out 0 0
-  gather-start l e = let k : n ≡ min (count t m) (t .capacity) = e ∙ counted t m in record { collecting = collect-start (rows-length t m) l k; most = omega arith }
+  gather-start l e = gather-with-room (t .capacity) l (omega arith) e
 
   module _ {out : List B} {i j : ℕ} (s : Gathering t p f m n out i j) where
     pub gather-skips : {r : A} → Read t m i r → i < n → p r ≡ false → Gathering t p f m n out (i + 1) j
@@ -37,22 +41,24 @@ module _ {A B : Type 0} {t : Layout A} {p : A → Bool} {f : A → B} {m : List 
 -- INTO AN ARRAY THAT IS d wherever nothing is collected: the whole array is determined.
 pub record Picking {A B : Type 0} (t : Layout A) (p : A → Bool) (f : A → B) (d : B) (m : List ℕ) (n : ℕ) (out : List B) (i j : ℕ) : Type 0 where
   pub gathering : Gathering t p f m n out i j
+  pub room : length out ≡ t .capacity
   pub rest : out ≡ fill d (t .capacity) (take j out)
 
 module _ {A B : Type 0} {t : Layout A} {p : A → Bool} {f : A → B} {d : B} {m : List ℕ} {n : ℕ} where
   pub pick-start : {out : List B} → length out ≡ t .capacity → out ≡ fill d (t .capacity) [] → n ≡ length (table t m) → Picking t p f d m n out 0 0
-  pick-start l r e = record { gathering = gather-start l e; rest = r }
+  pick-start l r e = record { gathering = gather-start l e; room = l; rest = r }
 
   module _ {out : List B} {i j : ℕ} (s : Picking t p f d m n out i j) where
     pub pick-skips : {r : A} → Read t m i r → i < n → p r ≡ false → Picking t p f d m n out (i + 1) j
-    pick-skips g h e = record { gathering = gather-skips (s .gathering) g h e; rest = s .rest }
+    pick-skips g h e = record { gathering = gather-skips (s .gathering) g h e; room = s .room; rest = s .rest }
 
     pub pick-takes : {r : A} → Read t m i r → i < n → p r ≡ true → Picking t p f d m n (set out j (f r)) (i + 1) (j + 1)
     pick-takes {r} g h e =
         let b : j ≤ i = gather-below (s .gathering) in
         record {
           gathering = gather-takes (s .gathering) g h e;
-          rest = fill-more d (f r) (t .capacity) j out (s .gathering .collecting .room) (omega (arith, s .gathering .most)) (s .rest);
+          room = length-set out j (f r) ∙ s .room;
+          rest = fill-more d (f r) (t .capacity) j out (s .room) (omega (arith, s .gathering .most)) (s .rest);
         }
 
     pub pick-end : n ≤ i → (out ≡ fill d (t .capacity) (map f (keep p (table t m)))) × (j ≡ length (map f (keep p (table t m))))

@@ -1,4 +1,5 @@
--- The loop that collects something of each row that passes a test into another array: rows before i are done, and j of them are collected.
+-- The loop that collects something of each row that passes a test into another array, which has at least as much room: rows before i are done, and
+-- j of them are collected.
 use mathlib.Core.Path.{_≡_, refl, sym, ap, _∙_}
 use mathlib.Core.Bool.{Bool, true, false}
 use mathlib.Core.List.{List, [], _∷_, _++_, map, append-nil}
@@ -13,14 +14,14 @@ use Rattle.sorted.proofs.Count.{all-rows, next-row, no-row}
 
 pub record Collecting {A B : Type 0} (p : A → Bool) (f : A → B) (count capacity n : ℕ) (rows : List A) (out : List B) (i j : ℕ) : Type 0 where
   pub len : length rows ≡ capacity
-  pub room : length out ≡ capacity
+  pub room : capacity ≤ length out
   pub counts : n ≡ min count capacity
   pub within : i ≤ n
   pub behind : j ≤ i
   pub all : take j out ++ map f (keep p (drop i (take n rows))) ≡ map f (keep p (take count rows))
 
 module _ {A B : Type 0} {p : A → Bool} {f : A → B} {count capacity n : ℕ} {rows : List A} where
-  pub collect-start : {out : List B} → length rows ≡ capacity → length out ≡ capacity → n ≡ min count capacity → Collecting p f count capacity n rows out 0 0
+  pub collect-start : {out : List B} → length rows ≡ capacity → capacity ≤ length out → n ≡ min count capacity → Collecting p f count capacity n rows out 0 0
   collect-start l r e = record { len = l; room = r; counts = e; within = zero-le; behind = zero-le; all = ap (λ (t : List A). map f (keep p t)) (all-rows count capacity n rows l e) }
 
   module _ {out : List B} {i j : ℕ} (s : Collecting p f count capacity n rows out i j) where
@@ -37,7 +38,7 @@ module _ {A B : Type 0} {p : A → Bool} {f : A → B} {count capacity n : ℕ} 
     collect-takes d h e =
         record {
           len = s .len;
-          room = length-set out j (f (getD rows i d)) ∙ s .room;
+          room = omega (arith, length-set out j (f (getD rows i d)), s .room);
           counts = s .counts;
           within = omega arith;
           behind = omega arith;

@@ -24,6 +24,14 @@ module _ {A : Type 0} where
   in-append (y ∷ l) m x (inl e) = inl (inl e)
   in-append (y ∷ l) m x (inr i) = elim (in-append l m x i) [ inl j ↦ inl (inr j) | inr j ↦ inr j ]
 
+  pub in-left : (l m : List A) (x : A) → In x l → In x (l ++ m)
+  in-left (y ∷ l) m x (inl e) = inl e
+  in-left (y ∷ l) m x (inr i) = inr (in-left l m x i)
+
+  pub in-right : (l m : List A) (x : A) → In x m → In x (l ++ m)
+  in-right [] m x i = i
+  in-right (y ∷ l) m x i = inr (in-right l m x i)
+
   -- KEPT: exactly the members that pass.
   pub in-keep : (q : A → Bool) (l : List A) (x : A) → In x (keep q l) → In x l × (q x ≡ true)
   unfolding keep

@@ -1,33 +1,30 @@
--- Rows changed in place, where their keys stay: what is found, what is there, the order, the length.
+-- Images of a list's members; rows changed in place, where their keys stay: what is found, what is there, the order.
 use mathlib.Core.Path.{_≡_, refl, _∙_, ap}
 use mathlib.Core.Logic.{inl, inr}
 use mathlib.Core.Bool.{Bool, true, false, cond}
 use mathlib.Core.List.{List, [], _∷_, map}
 use mathlib.Core.Option.{Option, none, some}
-use Prim.Native.Nat.{suc}
-use lib.ListN.{length}
 use Rattle.sorted.specs.declared.Order.{Order}
 use Rattle.sorted.specs.declared.Order.the-variants.{Before}
 use Rattle.sorted.specs.Order.{same}
 use Rattle.sorted.specs.Table.{find, keep, In, Sorted, at}
 use Rattle.sorted.proofs.Sorted.{only}
 
+-- IMAGES.
+module _ {A B : Type 0} (f : A → B) where
+  pub in-map : (l : List A) (y : B) → In y (map f l) → (x : A) × In x l × (y ≡ f x)
+  in-map (x ∷ l) y (inl e) = (x, inl refl, e)
+  in-map (x ∷ l) y (inr i) = let z = in-map l y i in (z .0, inr (z .1), z .2)
+
+  pub map-in : (l : List A) (x : A) → In x l → In (f x) (map f l)
+  map-in (y ∷ l) x (inl e) = inl (ap f e)
+  map-in (y ∷ l) x (inr i) = inr (map-in l x i)
+
+-- ROWS CHANGED IN PLACE.
 module _ {R : Type 0} (f : R → R) where
   abbrev pub revised : Option R → Option R
   revised none = none
   revised (some r) = some (f r)
-
-  pub in-map : (l : List R) (x : R) → In x (map f l) → (y : R) × In y l × (x ≡ f y)
-  in-map (y ∷ l) x (inl e) = (y, inl refl, e)
-  in-map (y ∷ l) x (inr i) = let z = in-map l x i in (z .0, inr (z .1), z .2)
-
-  pub map-in : (l : List R) (x : R) → In x l → In (f x) (map f l)
-  map-in (y ∷ l) x (inl e) = inl (ap f e)
-  map-in (y ∷ l) x (inr i) = inr (map-in l x i)
-
-  pub length-map : (l : List R) → length (map f l) ≡ length l
-  length-map [] = refl
-  length-map (x ∷ l) = ap suc (length-map l)
 
   -- a test that does not see the change
   module _ (q : R → Bool) (blind : (r : R) → q (f r) ≡ q r) where

@@ -7,11 +7,10 @@ use native.Mathlib.Omega.{arith}
 use lib.ListN.{take}
 use Rattle.sorted.proofs.Count.{mapped}
 use Rattle.memory.specs.Rows.{table}
-use Rattle.memory.proofs.Picking.{gather-below}
+use Rattle.memory.proofs.Picking.{Gathering, gather-with-room, gather-skips, gather-takes, gather-end, gather-below}
 use Rattle.layouts.specs.Tables.{windowsIn, documentsIn}
 use Rattle.wim.specs.Nouns.{DocumentNumber, Window, Document}
 use Rattle.wim.specs.Walks.{steps, isUnder, removal}
-use Rattle.removing.proofs.Gather.{Wide, wide-start, wide-skips, wide-takes, wide-end}
 use Rattle.removing.proofs.windows_under.Statement.{statement}
 use Rattle.removing.proofs.windows_under.Tie as tie
 
@@ -19,7 +18,7 @@ abbrev hangs : List Window → List Document → List DocumentNumber → Window 
 hangs ws ds gone r = isUnder steps ws ds gone (r .number)
 
 abbrev Inv-loop : tie.InvT-loop
-Inv-loop m gone n out₀ j₀ i₀ out j i = Wide windowsIn (hangs (table windowsIn m) (table documentsIn m) (take (gone .count) (gone .rows))) (λ (r : Window). r .number) m n (out .rows) i j
+Inv-loop m gone n out₀ j₀ i₀ out j i = Gathering windowsIn (hangs (table windowsIn m) (table documentsIn m) (take (gone .count) (gone .rows))) (λ (r : Window). r .number) m n (out .rows) i j
 
 abbrev μ-loop : tie.MeasureT-loop
 μ-loop m gone n out₀ j₀ i₀ out j i = n - i
@@ -29,16 +28,16 @@ unfolding removal
 windows-under-spec = tie.close (tie.spec Inv-loop μ-loop
     (λ c κs. tt)
     (λ c κs. tt)
-    (λ c. wide-start 33 (search mapped) (omega arith) (c .before .size .ensures))
+    (λ c. gather-with-room 33 (search mapped) (omega arith) (c .before .size .ensures))
     (λ c κs. tt)
     (λ c κs. tt)
     (λ c. omega arith)
-    (λ c. omega (arith, gather-below (c .before .before .before .before .before .loop .inv .front)))
+    (λ c. omega (arith, gather-below (c .before .before .before .before .before .loop .inv)))
     (λ c. omega arith)
     (λ c. omega arith)
     (λ c. omega arith)
-    (λ c. wide-takes (c .before .before .before .before .before .loop .inv) (c .before .before .before .row .ensures) (omega arith) (sym (c .before .is-under .ensures) ∙ c .if1 .taken))
+    (λ c. gather-takes (c .before .before .before .before .before .loop .inv) (c .before .before .before .row .ensures) (omega arith) (sym (c .before .is-under .ensures) ∙ c .if1 .taken))
     (λ c. omega arith)
     (λ c. omega arith)
-    (λ c. wide-skips (c .before .before .before .before .before .loop .inv) (c .before .before .before .row .ensures) (omega arith) (sym (c .before .is-under .ensures) ∙ c .if1 .left))
-    (λ c. wide-end (c .before .loop .inv) (omega arith)))
+    (λ c. gather-skips (c .before .before .before .before .before .loop .inv) (c .before .before .before .row .ensures) (omega arith) (sym (c .before .is-under .ensures) ∙ c .if1 .left))
+    (λ c. gather-end (c .before .loop .inv) (omega arith)))
