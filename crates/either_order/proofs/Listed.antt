@@ -2,11 +2,12 @@
 use mathlib.Core.Path.{_≡_, refl, _∙_, ap}
 use mathlib.Core.Logic.{inl, inr}
 use mathlib.Core.Bool.{Bool, true, false, _||_}
-use mathlib.Core.List.{List, [], _∷_, _++_}
+use mathlib.Core.List.{List, [], _∷_}
 use borrow.Author.Tests.{eqb-true, eq-eqb}
 use lib.Dec.{eqb}
 use Rattle.sorted.specs.Table.{In}
 use Rattle.sorted.proofs.Never.{never}
+use Rattle.sorted.proofs.Member.{in-left, in-right}
 use Rattle.sorted.proofs.Tests.{and-left, and-right, and-both, or-one, or-left, or-right}
 use Rattle.tables.specs.Tables.{Table, Row}
 use Rattle.tables.specs.Labels.{Label, code, sameLabel, among, ties, refs, mentions}
@@ -40,15 +41,6 @@ host-in h (g ∷ hs) e = elim (or-one (sameHost h g) (hostOneOf h hs) e) [ inl p
 pub in-hosts : (h : Host) (hs : List Host) → In h hs → hostOneOf h hs ≡ true
 in-hosts h (g ∷ hs) (inl e) = or-left (sameHost h g) (hostOneOf h hs) (eq-eqb (h .0) (g .0) (ap (λ (x : Host). x .0) e))
 in-hosts h (g ∷ hs) (inr i) = or-right (sameHost h g) (hostOneOf h hs) (in-hosts h hs i)
-
--- LISTS ONE BEHIND THE OTHER.
-pub in-left : {A : Type 0} (l m : List A) (x : A) → In x l → In x (l ++ m)
-in-left (y ∷ l) m x (inl e) = inl e
-in-left (y ∷ l) m x (inr i) = inr (in-left l m x i)
-
-pub in-right : {A : Type 0} (l m : List A) (x : A) → In x m → In x (l ++ m)
-in-right [] m x i = i
-in-right (y ∷ l) m x i = inr (in-right l m x i)
 
 -- what a row ties together or refers to stands in it
 pub tie-mentioned : (t : Table) (r : Row t) (a : Label) → In a (ties t r) → In a (mentions t r)

@@ -39,7 +39,7 @@ window-is none t e = never (cc)
 window-is (some s) t e = ap some (sym (same-window t s e))
 
 pub is-window : (st : Option WindowNumber) (t : WindowNumber) → st ≡ some t → isWindow t st ≡ true
-is-window st t e = ap (isWindow t) e ∙ window-same t
+is-window st t e = ap (isWindow t) e ∙ window-same t t refl
 
 -- where what a reference leads to is the step's, so is the entry
 entry-ours : (st : Option WindowNumber) (hs : List Host) (o : Option WindowNumber) (h : Host) → ours st hs (topColour o) ≡ true → ours st hs (orHost o h) ≡ true

@@ -9,6 +9,7 @@ use native.Mathlib.Omega.{arith}
 use lib.ListN.{length}
 use Rattle.sorted.specs.Table.{In, All}
 use Rattle.sorted.proofs.Never.{never}
+use Rattle.sorted.proofs.Member.{in-left, in-right}
 use Rattle.tables.specs.Tables.{Table, windows, documents, pendingDNS, pendingRequests, Tables}
 use Rattle.tables.specs.Labels.{window, document, host, leads, openerLabel}
 use Rattle.tables.specs.Rows.{sameWindow, originOf, sameOrigin}
@@ -26,7 +27,6 @@ use Rattle.four_rows.proofs.Programs.{none-yet, merged-few, afterStoring}
 use Rattle.either_order.proofs.Sight.{itself, reached-even}
 use Rattle.either_order.proofs.Part.{Part, sees, own-sees, level-even, Whole}
 use Rattle.either_order.proofs.Keeps.{Keeps}
-use Rattle.either_order.proofs.Listed.{in-left, in-right}
 use Rattle.either_order.proofs.Shared.{Always, kept-needs, kept-stop, kept-send, kept-cancel, kept-store}
 use Rattle.either_order.proofs.Seeds.{Seeds, reached-own, active-own, active-host}
 

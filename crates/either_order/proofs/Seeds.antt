@@ -7,6 +7,7 @@ use mathlib.Core.Option.{Option, none, some}
 use Rattle.sorted.specs.Table.{keep, In}
 use Rattle.sorted.proofs.Never.{never}
 use Rattle.sorted.proofs.Member.{in-keep, find-in}
+use Rattle.sorted.proofs.Revise.{in-map}
 use Rattle.tables.specs.Tables.{windows, documents, Tables}
 use Rattle.tables.specs.Labels.{Label, window, request, dns, key, document, host}
 use Rattle.tables.specs.Rows.{oneOf, windowOneOf}
@@ -16,7 +17,7 @@ use Rattle.wim.specs.Program.{reached, active, history, under, question, keyles
 use Rattle.wim.specs.LocalSteps.{topOf, home, hosts, documentHost}
 use Rattle.wim.proofs.Walks.{reached-top}
 use Rattle.invariant.proofs.Rooted.Gone.{in-history}
-use Rattle.invariant.proofs.Rooted.Tests.{one-in, window-in, in-image}
+use Rattle.invariant.proofs.Rooted.Tests.{one-in, window-in}
 use Rattle.invariant.proofs.Rooted.Removed.{numbers}
 use Rattle.either_order.proofs.Sight.{Even, document-even, under-part, document-part}
 use Rattle.either_order.proofs.Part.{Part, sees, level-even, Whole}
@@ -90,7 +91,7 @@ module _ (F : Part) (b : Tables) (W : Whole F b) where
   -- some of the documents of an owned window
   pub some-own : (w : WindowNumber) (l : List Document) → F .own (window, w .0) ≡ true → ((d : Document) → In d l → In d (observed (history w) b))
       → (n : DocumentNumber) → oneOf n (map (λ (d : Document). d .number) l) ≡ true → F .own (document, n .0) ≡ true
-  some-own w l o h n e = let z = in-image (λ (d : Document). d .number) l n (one-in n (numbers l) e) in ap (λ (k : DocumentNumber). F .own (document, k .0)) (z .2) ∙ history-own w o (z .0) (h (z .0) (z .1))
+  some-own w l o h n e = let z = in-map (λ (d : Document). d .number) l n (one-in n (numbers l) e) in ap (λ (k : DocumentNumber). F .own (document, k .0)) (z .2) ∙ history-own w o (z .0) (h (z .0) (z .1))
 
   -- what goes with owned documents is owned
   pub under-own : (gone : List DocumentNumber) → ((n : DocumentNumber) → oneOf n gone ≡ true → F .own (document, n .0) ≡ true) → Removable F (observed (under gone) b)
@@ -103,12 +104,12 @@ module _ (F : Part) (b : Tables) (W : Whole F b) where
       ws : (w : WindowNumber) → windowOneOf w (map (λ (r : Window). r .number) (keep (λ (r : Window). isUnder steps (b windows) (b documents) gone (r .number)) (b windows))) ≡ true → F .own (window, w .0) ≡ true
       ws w e =
           let l : List Window = keep (λ (r : Window). isUnder steps (b windows) (b documents) gone (r .number)) (b windows) in
-          let z = in-image (λ (r : Window). r .number) l w (window-in w (map (λ (r : Window). r .number) l) e) in
+          let z = in-map (λ (r : Window). r .number) l w (window-in w (map (λ (r : Window). r .number) l) e) in
           let y = in-keep (λ (r : Window). isUnder steps (b windows) (b documents) gone (r .number)) (b windows) (z .0) (z .1) in
           ap (λ (k : WindowNumber). F .own (window, k .0)) (z .2) ∙ under-part (F .own) b even steps gone h (z .0 .number) (y .1)
 
       ds : (n : DocumentNumber) → oneOf n (map (λ (d : Document). d .number) (keep q (b documents))) ≡ true → F .own (document, n .0) ≡ true
       ds n e =
-          let z = in-image (λ (d : Document). d .number) (keep q (b documents)) n (one-in n (numbers (keep q (b documents))) e) in
+          let z = in-map (λ (d : Document). d .number) (keep q (b documents)) n (one-in n (numbers (keep q (b documents))) e) in
           let y = in-keep q (b documents) (z .0) (z .1) in
           ap (λ (k : DocumentNumber). F .own (document, k .0)) (z .2) ∙ (document-even (F .own) b even (z .0) (y .0) ∙ document-part (F .own) b even gone h (z .0) (y .0) (y .1))

@@ -7,10 +7,9 @@ use Prim.Native.Nat.{ℕ, _+_, _≤_}
 use native.Mathlib.Omega.{arith}
 use borrow.Author.Tests.{eq-eqb, le-leb, leb-true}
 use lib.Dec.{eqb, leb}
-use lib.ListN.{length}
+use lib.ListN.{length, length-map}
 use Rattle.sorted.proofs.Never.{never}
 use Rattle.sorted.proofs.Edits.{adds, length-acts}
-use Rattle.sorted.proofs.Revise.{length-map}
 use Rattle.tables.specs.Tables.{Table, Row, keyOf, cmp, cap, index, Tables, Edits, update, changed, apply}
 use Rattle.tables.specs.Labels.{Label, code, every}
 use Rattle.tables.proofs.Update.{update-one, every-true, every-one}
@@ -56,7 +55,7 @@ longer t es b m h = update-one (λ u l. length l ≤ on t m u + length (b u)) t 
     (let v = length-acts (keyOf t) (cmp t) es (b t) in let e : on t m t ≡ m = ap (λ (c : Bool). cond c m 0) (eq-eqb (index t) (index t) refl) in omega arith)
 
 pub as-long : (t : Table) (g : Row t → Row t) (b : Tables) (u : Table) → length (update t (map g) b u) ≡ length (b u)
-as-long t g b = update-one (λ u l. length l ≡ length (b u)) t (map g) b (λ u. refl) (length-map g (b t))
+as-long t g b = update-one (λ u l. length l ≡ length (b u)) t (map g) b (λ u. refl) (length-map (b t) g)
 
 from : (a b : Tables) (k n : Table → ℕ) {o : Outcome} → ((t : Table) → length (a t) + n t ≤ length (b t) + k t) → Short a k o → Short b n o
 from a b k n h (turned-away r e) = turned-away r e

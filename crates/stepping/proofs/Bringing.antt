@@ -49,6 +49,6 @@ stale p ks h b f e = go (met p ks h b f)
     go (went c m q) = let z : allFresh b f ≡ false = sym (ap (_&& allFresh b f) q) ∙ e in rw z
 
 -- the fresh numbers are good: what is left is 6
-pub admitted : (f : List Label) (b : Tables) (o : Outcome) → allFresh b f ≡ true → admit f b o ≡ fitted o
-admitted f b (refused r) e = refl
-admitted f b (made c m) e = rw e
+pub fresh-fitted : (f : List Label) (b : Tables) (o : Outcome) → allFresh b f ≡ true → admit f b o ≡ fitted o
+fresh-fitted f b (refused r) e = refl
+fresh-fitted f b (made c m) e = rw e

@@ -8,12 +8,11 @@ use native.Mathlib.Nat.{le-refl}
 use native.Mathlib.Omega.{arith}
 use borrow.Author.Tests.{leb-true, leb-false, lt-leb}
 use lib.Dec.{leb, eqb}
-use lib.ListN.{length}
+use lib.ListN.{length, length-map}
 use Rattle.sorted.specs.Table.{In, put, sift, keep, insert}
 use Rattle.sorted.proofs.Tests.{and-left, and-right, and-both}
 use Rattle.sorted.proofs.Edits.{putsOnly, length-puts}
 use Rattle.sorted.proofs.Member.{length-keep}
-use Rattle.sorted.proofs.Revise.{length-map}
 use Rattle.tables.specs.Tables.{Table, Row, keyOf, cmp, cap, index, Tables, Edits, update, changed, apply}
 use Rattle.tables.proofs.Update.{update-one, updated, spared, every-true, every-false}
 use Rattle.memory.specs.Rows.{Kept, Put, Revised, Cleared}
@@ -23,10 +22,6 @@ use Rattle.browser.proofs.Changes.{capacities, view-fits, view-kept, view-revis
 use Rattle.stepping.specs.Holds.{Holds, apartFrom, apart, Carries}
 
 -- LISTS OF TABLES.
-in-append-left : {A : Type 0} (l m : List A) (x : A) → In x m → In x (l ++ m)
-in-append-left [] m x i = i
-in-append-left (y ∷ l) m x i = inr (in-append-left l m x i)
-
 differs : (t u : Table) (us : List Table) → apartFrom t us ≡ true → In u us → eqb (index t) (index u) ≡ false
 differs t u (v ∷ us) e (inl p) = go (eqb (index t) (index v)) refl (and-left (not (eqb (index t) (index v))) (apartFrom t us) e)
   where
@@ -111,7 +106,7 @@ long-put : (t : Table) (es : Edits t) (w : Tables) → putsOnly es ≡ true → 
 long-put t es w o = update-one (λ u l. length (w u) ≤ length l) t (changed t es) w (λ u. le-refl _) (length-puts (keyOf t) (cmp t) es (w t) o)
 
 long-revise : (t : Table) (g : Row t → Row t) (w : Tables) (u : Table) → length (w u) ≤ length (update t (map g) w u)
-long-revise t g w = update-one (λ u l. length (w u) ≤ length l) t (map g) w (λ u. le-refl _) (let e = length-map g (w t) in omega arith)
+long-revise t g w = update-one (λ u l. length (w u) ≤ length l) t (map g) w (λ u. le-refl _) (let e = length-map (w t) g in omega arith)
 
 still-long : (a b c : ℕ) → leb a c ≡ false → a ≤ b → leb b c ≡ false
 still-long a b c e h = let z = leb-false a c e in lt-leb b c (omega arith)

@@ -16,7 +16,7 @@ use Rattle.wim.specs.Program.{Program, refused, run}
 use Rattle.wim.specs.Step.{numbers, given, freshLabels, allFresh, fitted, admit}
 use Rattle.stepping.specs.Wanted.{flags, chosen, kinds, picked, exactly, ready}
 use Rattle.stepping.specs.Brings.{Brings}
-use Rattle.stepping.proofs.Bringing.{matches, stale, admitted}
+use Rattle.stepping.proofs.Bringing.{matches, stale, fresh-fitted}
 
 -- LABELS OF RISING KINDS.
 Above : ℕ → List Label → Type 0
@@ -88,7 +88,7 @@ unready p w f b h e = stale p (kinds (picked w f)) h b (freshLabels f) (ap (_&& 
 pub readied : (p : Program) (w : Wants) (f : Fresh) (b : Tables) → ready w f b ≡ true → admit (freshLabels f) b (run p b (freshLabels f)) ≡ fitted (run p b (picked w f))
 readied p w f b e =
     let x = exactly (flags w) (numbers f) in
-    admitted (freshLabels f) b (run p b (freshLabels f)) (and-right x (allFresh b (freshLabels f)) e)
+    fresh-fitted (freshLabels f) b (run p b (freshLabels f)) (and-right x (allFresh b (freshLabels f)) e)
     ∙ ap (λ (l : List Label). fitted (run p b l)) (exact-given (paired w f) (and-left x (allFresh b (freshLabels f)) e))
 
 -- the last of five tests ends the list

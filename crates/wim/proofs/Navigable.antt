@@ -122,7 +122,7 @@ module _ (ws : List Window) (ds : List Document) (o : Origin) where
 
     top-directly : (v : WindowNumber) → reachedFrom steps ws ds w ≡ some v → navigableDirectly ws ds o w v ≡ true
     unfolding navigableDirectly
-    top-directly v h = or-right (hasOrigin o (activeDocument ds v)) _ (or-left _ _ (ap (isWindow v) h ∙ window-same v))
+    top-directly v h = or-right (hasOrigin o (activeDocument ds v)) _ (or-left _ _ (ap (isWindow v) h ∙ window-same v v refl))
 
     ancestor-directly : (v p : WindowNumber) → isReached ws ds v ≡ true → ChildOf⁺ ws ds v p → HasOrigin ds o p → navigableDirectly ws ds o w v ≡ true
     unfolding navigableDirectly

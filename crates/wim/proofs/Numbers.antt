@@ -1,5 +1,5 @@
 -- Numbers of windows and documents compared, and rows looked up by their number.
-use mathlib.Core.Path.{_≡_, refl, sym}
+use mathlib.Core.Path.{_≡_, sym, ap}
 use mathlib.Core.Bool.{true}
 use mathlib.Core.List.{List}
 use mathlib.Core.Option.{some}
@@ -18,14 +18,17 @@ window-eq v w e i = record { 0 = e i }
 pub same-window : (v w : WindowNumber) → sameWindow v w ≡ true → v ≡ w
 same-window v w e = window-eq v w (eqb-true (v .0) (w .0) e)
 
-pub window-same : (v : WindowNumber) → sameWindow v v ≡ true
-window-same v = eq-eqb (v .0) (v .0) refl
+pub window-same : (v w : WindowNumber) → v ≡ w → sameWindow v w ≡ true
+window-same v w e = eq-eqb (v .0) (w .0) (ap (λ (x : WindowNumber). x .0) e)
 
 pub document-eq : (m n : DocumentNumber) → m .0 ≡ n .0 → m ≡ n
 document-eq m n e i = record { 0 = e i }
 
 pub same-document : (m n : DocumentNumber) → sameDocument m n ≡ true → m ≡ n
 same-document m n e = document-eq m n (eqb-true (m .0) (n .0) e)
+
+pub document-same : (m n : DocumentNumber) → m ≡ n → sameDocument m n ≡ true
+document-same m n e = eq-eqb (m .0) (n .0) (ap (λ (x : DocumentNumber). x .0) e)
 
 pub row-numbered : (ws : List Window) (v : WindowNumber) (r : Window) → windowNumbered ws v ≡ some r → In r ws × (r .number ≡ v)
 unfolding windowNumbered

@@ -19,8 +19,8 @@ use Rattle.tables.specs.Rows.{sameDocument}
 use Rattle.wim.specs.Nouns.{WindowNumber, DocumentNumber, Window, Document, Input, Top, Under}
 use Rattle.wim.specs.Walks.{windowNumbered, documentNumbered, steps, topAbove}
 use Rattle.invariant.proofs.Rooted.Tests.{fails}
-use Rattle.wim.proofs.Numbers.{found-document, window-eq, same-document}
-use Rattle.invariant.proofs.Rooted.Stands.{Follows, Arrives, Framed, row-in, linear-pair}
+use Rattle.wim.proofs.Numbers.{row-numbered, found-document, window-eq, same-document}
+use Rattle.invariant.proofs.Rooted.Stands.{Follows, Arrives, Framed, linear-pair}
 use Rattle.invariant.proofs.Rooted.Lines.{is-topmost, is-held, up-top, top-itself, top-follows}
 use Rattle.invariant.proofs.Rooted.Depth.{settled}
 
@@ -45,8 +45,8 @@ module _ (ws : List Window) (ds : List Document) (is : List Input) (F : Framed w
     row-stays : (v : WindowNumber) (x : Window) → windowNumbered ws v ≡ some x → windowNumbered withRow v ≡ some x
     unfolding windowNumbered
     row-stays v x e =
-        let z = row-in ws v x e in
-        at-put-other (keyOf windows) (cmp windows) linearℕ (v .0) r ws (λ p. new x (z .0) (sym (z .1) ∙ window-eq v (r .number) p)) ∙ e
+        let z = row-numbered ws v x e in
+        at-put-other (keyOf windows) (cmp windows) linearℕ (v .0) r ws (λ p. new x (z .0) (z .1 ∙ window-eq v (r .number) p)) ∙ e
 
     row-found : windowNumbered withRow (r .number) ≡ some r
     unfolding windowNumbered
@@ -77,9 +77,9 @@ module _ (ws : List Window) (ds : List Document) (is : List Input) (F : Framed w
     pub framed-frame : (d : Document) → r .parent ≡ Under (d .number) → (e : Document) → documentNumbered ds (d .number) ≡ some e → length withRow ≤ steps → Framed withRow ds is
     framed-frame d p e f l =
         let w = F .windows-there e (found-document ds (d .number) e f .0) in
-        let x = row-in ws (e .window) (w .0) (w .1) in
+        let x = row-numbered ws (e .window) (w .0) (w .1) in
         let t = F .tops-there (w .0) (x .0) in
-        let u : topAbove steps withRow ds (e .window) ≡ some (t .0) = lines-stay (e .window) (t .0) (ap (topAbove steps ws ds) (x .1) ∙ t .1) in
+        let u : topAbove steps withRow ds (e .window) ≡ some (t .0) = lines-stay (e .window) (t .0) (ap (topAbove steps ws ds) (sym (x .1)) ∙ t .1) in
         framed-window (t .0) (settled withRow ds steps (r .number) l ∙ up-top withRow ds steps (r .number) (t .0) e (is-held withRow ds (r .number) r (d .number) e row-found p f) u)
 
   -- A NEW DOCUMENT, in a window that is there, with a number that no document has, at a place that follows on another or is the first.

@@ -14,8 +14,8 @@ use Rattle.tables.specs.Tables.{windows, cmp}
 use Rattle.tables.specs.Rows.{sameDocument}
 use Rattle.wim.specs.Nouns.{WindowNumber, DocumentNumber, Window, Document, Input, Under}
 use Rattle.wim.specs.Walks.{windowNumbered, documentNumbered, steps, topAbove}
-use Rattle.wim.proofs.Numbers.{window-eq, same-document, found-document}
-use Rattle.invariant.proofs.Rooted.Stands.{Follows, Arrives, Stands, row-in}
+use Rattle.wim.proofs.Numbers.{row-numbered, window-eq, same-document, found-document}
+use Rattle.invariant.proofs.Rooted.Stands.{Follows, Arrives, Stands}
 use Rattle.invariant.proofs.Rooted.Lines.{top-follows}
 
 -- what is left where `W` tells which windows go and `D` which documents
@@ -56,8 +56,8 @@ module _ (W : WindowNumber → Bool) (D : DocumentNumber → Bool) (ws : List Wi
       held : (x : WindowNumber) (r : Window) (n : DocumentNumber) (d : Document) → W x ≡ false → windowNumbered ws x ≡ some r → r .parent ≡ Under n → documentNumbered ds n ≡ some d
           → (e : Document) × (documentNumbered (documentsLeft D ds) n ≡ some e) × (e .window ≡ d .window) × (W (d .window) ≡ false)
       held x r n d p e f g =
-          let z = row-in ws x r e in
-          let k : D n ≡ false = C .parents r n (z .0) (ap W (sym (z .1)) ∙ p) f in
+          let z = row-numbered ws x r e in
+          let k : D n ≡ false = C .parents r n (z .0) (ap W (z .1) ∙ p) f in
           let y = found-document ds n d g in
           (d, document-stays n k ∙ g, refl, C .homes d (y .0) (ap D (y .1) ∙ k))
 

@@ -11,8 +11,8 @@ use Rattle.sorted.proofs.Never.{never}
 use Rattle.wim.specs.Nouns.{WindowNumber, Window, Document}
 use Rattle.wim.specs.Walks.{Above, missing, topmost, heldBy, above, topAt, topAbove}
 use Rattle.wim.proofs.Pigeon.{pigeon}
+use Rattle.wim.proofs.Numbers.{row-numbered}
 use Rattle.wim.proofs.Walks.{top-more}
-use Rattle.invariant.proofs.Rooted.Stands.{row-in}
 use Rattle.invariant.proofs.Rooted.Lines.{topmost-row, held-row}
 
 module _ (ws : List Window) (ds : List Document) where
@@ -43,9 +43,9 @@ module _ (ws : List Window) (ds : List Document) where
       go missing e f = never (cc)
       go topmost e f =
           let z = topmost-row ws ds v e in
-          let i = row-in ws v (z .0) (z .1) in
+          let i = row-numbered ws v (z .0) (z .1) in
           let x : m ≡ 0 = omega arith in
-          (z .0, i .0, subst (λ (k : ℕ). High k (z .0 .number)) (sym x) (subst (High 0) (i .1) h))
+          (z .0, i .0, subst (λ (k : ℕ). High k (z .0 .number)) (sym x) (subst (High 0) (sym (i .1)) h))
       go (heldBy d) e f = never (cc)
   heights (suc n) v h m l = go (above ws ds v) refl (h .0) (h .1 .1) (heights n) (decLe m n)
     where
@@ -56,9 +56,9 @@ module _ (ws : List Window) (ds : List Document) where
       go (heldBy d) e f g ih (yes k) = ih (d .window) (f, (h .1 .0, g)) m k
       go (heldBy d) e f g ih (no k) =
           let z = held-row ws ds v d e in
-          let i = row-in ws v (z .0) (z .2) in
+          let i = row-numbered ws v (z .0) (z .2) in
           let x : m ≡ suc n = omega arith in
-          (z .0, i .0, subst (λ (k : ℕ). High k (z .0 .number)) (sym x) (subst (High (suc n)) (i .1) h))
+          (z .0, i .0, subst (λ (k : ℕ). High k (z .0 .number)) (sym x) (subst (High (suc n)) (sym (i .1)) h))
 
   deep : (n : ℕ) (v : WindowNumber) → High n v → suc n ≤ length ws
   deep n v h = pigeon (λ m (r : Window). High m (r .number)) (λ m k r x y. high-one m k (r .number) x y) (suc n) ws (λ m l. heights n v h m (omega arith))

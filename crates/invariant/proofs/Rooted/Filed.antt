@@ -13,8 +13,7 @@ use Rattle.tables.specs.Tables.{inputs, keyOf, cmp}
 use Rattle.tables.specs.Rows.{sameDocument}
 use Rattle.wim.specs.Nouns.{DocumentNumber, Window, Document, Input, News}
 use Rattle.wim.specs.Walks.{documentNumbered}
-use Rattle.wim.proofs.Numbers.{document-eq, same-document}
-use Rattle.invariant.proofs.Rooted.Tests.{document-same}
+use Rattle.wim.proofs.Numbers.{document-eq, same-document, document-same}
 use Rattle.invariant.proofs.Rooted.Stands.{Arrives, Stands}
 use Rattle.invariant.proofs.Rooted.Counted.{rising, Gapless, counted}
 use Rattle.invariant.proofs.Rooted.Added.{framed-input}

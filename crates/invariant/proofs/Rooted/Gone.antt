@@ -15,8 +15,8 @@ use Rattle.tables.specs.Rows.{sameWindow, oneOf}
 use Rattle.wim.specs.Nouns.{WindowNumber, Window, Document, Input}
 use Rattle.wim.specs.Walks.{documentsOf, activeAmong}
 use Rattle.wim.specs.Response.{laterThan}
-use Rattle.wim.proofs.Numbers.{same-window}
-use Rattle.invariant.proofs.Rooted.Tests.{window-same, not-both}
+use Rattle.wim.proofs.Numbers.{same-window, window-same}
+use Rattle.invariant.proofs.Rooted.Tests.{not-both}
 use Rattle.invariant.proofs.Rooted.Stands.{Stands}
 use Rattle.invariant.proofs.Rooted.Removed.{numbers, numbered-in, in-numbered, Once, Closed}
 

@@ -20,8 +20,8 @@ use Rattle.wim.specs.Walks.{documentsOf, activeAmong, windowNumbered, documentN
 use Rattle.wim.specs.History.{placeOf}
 use Rattle.wim.specs.Response.{laterThan, upTo}
 use Rattle.invariant.proofs.Rooted.Tests.{fails, not-both}
-use Rattle.wim.proofs.Numbers.{found-document, window-eq}
-use Rattle.invariant.proofs.Rooted.Stands.{Follows, Stands, row-in}
+use Rattle.wim.proofs.Numbers.{row-numbered, found-document, window-eq}
+use Rattle.invariant.proofs.Rooted.Stands.{Follows, Stands}
 use Rattle.invariant.proofs.Rooted.Lines.{not-under-own}
 use Rattle.invariant.proofs.Rooted.Counted.{rising, Gapless, counted}
 use Rattle.invariant.proofs.Rooted.Cut.{windowsLeft, documentsLeft, inputsLeft, Cut, row-stays, was, stays, stands-cut}
@@ -64,9 +64,9 @@ module _ (ws : List Window) (ds : List Document) (is : List Input) (S : Stands w
 
   not-under : isUnder steps ws ds gone v ≡ false
   not-under =
-      let z = row-in ws v r found in
+      let z = row-numbered ws v r found in
       let x = S .framed .tops-there r (z .0) in
-      fails (isUnder steps ws ds gone v) (λ u. not-under-own ws ds gone v (own o) steps steps (x .0) u (ap (topAbove steps ws ds) (z .1) ∙ x .1))
+      fails (isUnder steps ws ds gone v) (λ u. not-under-own ws ds gone v (own o) steps steps (x .0) u (ap (topAbove steps ws ds) (sym (z .1)) ∙ x .1))
 
   window-stays : W v ≡ false
   window-stays = fails (W v) (λ q. not-both (window-goes ws ds is S s once gone closed v q) not-under)

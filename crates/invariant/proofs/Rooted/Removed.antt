@@ -6,12 +6,13 @@ use mathlib.Core.List.{List, map}
 use Prim.Native.Nat.{suc}
 use Rattle.sorted.specs.Table.{keep, In, Sorted}
 use Rattle.sorted.proofs.Member.{in-keep, keep-in}
+use Rattle.sorted.proofs.Revise.{in-map, map-in}
 use Rattle.tables.specs.Tables.{windows, keyOf, cmp}
 use Rattle.tables.specs.Rows.{sameWindow, oneOf, windowOneOf}
 use Rattle.wim.specs.Nouns.{WindowNumber, DocumentNumber, Window, Document, Input, Under}
 use Rattle.wim.specs.Walks.{steps, isUnder, Removal, removal}
 use Rattle.wim.specs.Script.{withWindow}
-use Rattle.invariant.proofs.Rooted.Tests.{or-neither, neither-or, fails, not-both, one-in, in-one, window-in, in-window, in-image, image-in}
+use Rattle.invariant.proofs.Rooted.Tests.{or-neither, neither-or, fails, not-both, one-in, in-one, window-in, in-window}
 use Rattle.wim.proofs.Numbers.{found-document, same-window}
 use Rattle.invariant.proofs.Rooted.Stands.{Stands, in-row, in-document}
 use Rattle.invariant.proofs.Rooted.Lines.{is-held, top-up, under-settled, under-up}
@@ -22,7 +23,7 @@ abbrev pub numbers : List Document → List DocumentNumber
 numbers l = map (λ (d : Document). d .number) l
 
 pub numbered-in : (l : List Document) (d : Document) → In d l → oneOf (d .number) (numbers l) ≡ true
-numbered-in l d i = in-one (d .number) (numbers l) (image-in (λ (d : Document). d .number) l d i)
+numbered-in l d i = in-one (d .number) (numbers l) (map-in (λ (d : Document). d .number) l d i)
 
 -- each document's number is its own
 abbrev pub Once : List Document → Type 0
@@ -30,7 +31,7 @@ Once ds = (d e : Document) → In d ds → In e ds → d .number ≡ e .number �
 
 pub in-numbered : (ds : List Document) → Once ds → (l : List Document) → ((d : Document) → In d l → In d ds) → (d : Document) → In d ds → oneOf (d .number) (numbers l) ≡ true → In d l
 in-numbered ds once l part d i e =
-    let z = in-image (λ (d : Document). d .number) l (d .number) (one-in (d .number) (numbers l) e) in
+    let z = in-map (λ (d : Document). d .number) l (d .number) (one-in (d .number) (numbers l) e) in
     subst (λ (x : Document). In x l) (once (z .0) d (part (z .0) (z .1)) i (sym (z .2))) (z .1)
 
 -- WHAT A REMOVAL TAKES.
@@ -62,18 +63,18 @@ module _ (ws : List Window) (ds : List Document) (is : List Input) (S : Stands w
   unfolding removal
   window-goes v e =
       let l : List Window = keep (λ (r : Window). under (r .number)) ws in
-      let z = in-image (λ (r : Window). r .number) l v (window-in v (map (λ (r : Window). r .number) l) e) in
+      let z = in-map (λ (r : Window). r .number) l v (window-in v (map (λ (r : Window). r .number) l) e) in
       ap under (z .2) ∙ in-keep (λ (r : Window). under (r .number)) ws (z .0) (z .1) .1
 
   window-stays : (r : Window) → In r ws → W (r .number) ≡ false → under (r .number) ≡ false
   unfolding removal
   window-stays r i e = fails (under (r .number)) (λ p. not-both (in-window (r .number) (map (λ (r : Window). r .number) (keep (λ (r : Window). under (r .number)) ws))
-      (image-in (λ (r : Window). r .number) (keep (λ (r : Window). under (r .number)) ws) r (keep-in (λ (r : Window). under (r .number)) ws r i p))) e)
+      (map-in (λ (r : Window). r .number) (keep (λ (r : Window). under (r .number)) ws) r (keep-in (λ (r : Window). under (r .number)) ws r i p))) e)
 
   document-goes : (n : DocumentNumber) → D n ≡ true → (d : Document) × In d ds × (n ≡ d .number) × (goes d ≡ true)
   unfolding removal
   document-goes n e =
-      let z = in-image (λ (d : Document). d .number) (keep goes ds) n (one-in n (numbers (keep goes ds)) e) in
+      let z = in-map (λ (d : Document). d .number) (keep goes ds) n (one-in n (numbers (keep goes ds)) e) in
       let y = in-keep goes ds (z .0) (z .1) in
       (z .0, y .0, z .2, y .1)
 

@@ -9,14 +9,13 @@ use Rattle.sorted.specs.Order.{Linear, cmpℕ, lex}
 use Rattle.sorted.specs.Table.{In, Sorted}
 use Rattle.sorted.proofs.Linear.{linearℕ, linear-lex}
 use Rattle.sorted.proofs.Member.{find-some}
-use Rattle.sorted.proofs.Lookup.{at-key, at-in}
+use Rattle.sorted.proofs.Lookup.{at-in}
 use Rattle.tables.specs.Tables.{windows, documents, inputs, keyOf, cmp, Tables}
 use Rattle.tables.specs.Rows.{sameDocument}
 use Rattle.wim.specs.Nouns.{WindowNumber, DocumentNumber, Window, Document, Input}
 use Rattle.wim.specs.Walks.{windowNumbered, documentNumbered, steps, topAbove}
 use Rattle.wim.specs.Invariant.{Rooted}
-use Rattle.wim.proofs.Numbers.{window-eq}
-use Rattle.invariant.proofs.Rooted.Tests.{document-same}
+use Rattle.wim.proofs.Numbers.{document-same}
 
 -- a document at its window's first place, or at the place after another
 abbrev pub Follows : List Document → Document → Type 0
@@ -69,10 +68,6 @@ stands-empty =
     }
 
 -- ROWS BY THEIR NUMBERS.
-pub row-in : (ws : List Window) (v : WindowNumber) (r : Window) → windowNumbered ws v ≡ some r → In r ws × (v ≡ r .number)
-unfolding windowNumbered
-row-in ws v r e = let z = at-key (keyOf windows) (cmp windows) linearℕ (v .0) ws r e in (z .0, window-eq v (r .number) (z .1))
-
 pub in-row : (ws : List Window) → Sorted (keyOf windows) (cmp windows) ws → (r : Window) → In r ws → windowNumbered ws (r .number) ≡ some r
 unfolding windowNumbered
 in-row ws s r i = at-in (keyOf windows) (cmp windows) linearℕ ws r s i

@@ -16,9 +16,9 @@ use Rattle.tables.specs.Tables.{documents, keyOf, cmp}
 use Rattle.tables.specs.Rows.{sameWindow, withActive, settingActive}
 use Rattle.wim.specs.Nouns.{WindowNumber, Window, Document, Input}
 use Rattle.wim.specs.Walks.{windowNumbered}
-use Rattle.wim.proofs.Numbers.{same-window}
+use Rattle.wim.proofs.Numbers.{same-window, window-same}
 use Rattle.invariant.proofs.Numbered.Once.{one-row}
-use Rattle.invariant.proofs.Rooted.Tests.{window-same, fails, not-both}
+use Rattle.invariant.proofs.Rooted.Tests.{fails, not-both}
 use Rattle.invariant.proofs.Rooted.Stands.{Follows, Framed, Stands, linear-pair}
 use Rattle.invariant.proofs.Rooted.Revised.{Steady, steady-where, steady-after, framed-revised, stands-revised}
 use Rattle.invariant.proofs.Rooted.Added.{still-in, framed-document}

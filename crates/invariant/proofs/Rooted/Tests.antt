@@ -1,15 +1,14 @@
--- Numbers under their labels compared, one of some numbers, and what is in a list of images.
-use mathlib.Core.Path.{_≡_, refl, ap}
+-- Tests that fail, and one of some numbers: the test and the fact.
+use mathlib.Core.Path.{_≡_, refl}
 use mathlib.Core.Logic.{_⊎_, inl, inr}
 use mathlib.Core.Bool.{Bool, true, false, _||_}
-use mathlib.Core.List.{List, [], _∷_, map}
-use borrow.Author.Tests.{eq-eqb}
+use mathlib.Core.List.{List, [], _∷_}
 use Rattle.sorted.specs.Table.{In}
 use Rattle.sorted.proofs.Never.{never}
 use Rattle.sorted.proofs.Tests.{or-left, or-right, or-one}
 use Rattle.tables.specs.Rows.{sameWindow, sameDocument, oneOf, windowOneOf}
 use Rattle.wim.specs.Nouns.{WindowNumber, DocumentNumber}
-use Rattle.wim.proofs.Numbers.{same-window, same-document}
+use Rattle.wim.proofs.Numbers.{same-window, window-same, same-document, document-same}
 
 -- TESTS.
 pub or-neither : (b c : Bool) → (b || c) ≡ false → (b ≡ false) × (c ≡ false)
@@ -27,13 +26,6 @@ fails false h = refl
 
 pub not-both : {A : Type 0} {b : Bool} → b ≡ true → b ≡ false → A
 not-both {b} e f = never (cc)
-
--- NUMBERS.
-pub window-same : (v w : WindowNumber) → v ≡ w → sameWindow v w ≡ true
-window-same v w e = eq-eqb (v .0) (w .0) (ap (λ (x : WindowNumber). x .0) e)
-
-pub document-same : (m n : DocumentNumber) → m ≡ n → sameDocument m n ≡ true
-document-same m n e = eq-eqb (m .0) (n .0) (ap (λ (x : DocumentNumber). x .0) e)
 
 -- ONE OF SOME NUMBERS.
 pub one-in : (n : DocumentNumber) (ms : List DocumentNumber) → oneOf n ms ≡ true → In n ms
@@ -59,13 +51,3 @@ window-in v (w ∷ ws) e = go (or-one (sameWindow v w) (windowOneOf v ws) e) (wi
 pub in-window : (v : WindowNumber) (ws : List WindowNumber) → In v ws → windowOneOf v ws ≡ true
 in-window v (w ∷ ws) (inl e) = or-left (sameWindow v w) (windowOneOf v ws) (window-same v w e)
 in-window v (w ∷ ws) (inr i) = or-right (sameWindow v w) (windowOneOf v ws) (in-window v ws i)
-
--- IMAGES.
-module _ {A B : Type 0} (f : A → B) where
-  pub in-image : (l : List A) (y : B) → In y (map f l) → (x : A) × In x l × (y ≡ f x)
-  in-image (x ∷ l) y (inl e) = (x, inl refl, e)
-  in-image (x ∷ l) y (inr i) = let z = in-image l y i in (z .0, inr (z .1), z .2)
-
-  pub image-in : (l : List A) (x : A) → In x l → In (f x) (map f l)
-  image-in (y ∷ l) x (inl e) = inl (ap f e)
-  image-in (y ∷ l) x (inr i) = inr (image-in l x i)
