@@ -1,12 +1,11 @@
--- The example computed: both orders print the lines and leave the rows that are written out, and the theorem speaks of it.
-use mathlib.Core.Path.{_≡_, refl, sym, _∙_, ap, subst}
+-- The example computed: both orders print the lines and leave the rows that are written out, and the theorem speaks of both pairs.
+use mathlib.Core.Path.{_≡_, refl, sym, subst}
 use mathlib.Core.Logic.{inl, inr}
 use mathlib.Core.Bool.{Bool, true, false, _||_}
-use mathlib.Core.List.{List, [], _∷_}
-use mathlib.Core.Option.{some}
-use Prim.Native.Nat.{_+_}
+use mathlib.Core.List.{List, [], _∷_, map}
+use mathlib.Core.Option.{Option, none, some}
+use Prim.Native.Nat.{ℕ, _+_}
 use Prim.Native.String.{String}
-use native.Mathlib.Omega.{arith}
 use borrow.Author.Tests.{leb-true}
 use lib.Dec.{leb}
 use lib.ListN.{length}
@@ -39,8 +38,9 @@ use Rattle.wim.specs.Step
 use Rattle.wim.specs.Walks
 use Rattle.wim.specs.Wire
 use Rattle.sorted.specs.Table.{In}
+use Rattle.sorted.proofs.Revise.{map-in}
 use Rattle.tables.specs.Tables.{Table, cap}
-use Rattle.tables.specs.Labels.{Label, among, every}
+use Rattle.tables.specs.Labels.{window, host, Label, among, every}
 use Rattle.tables.proofs.Update.{every-one}
 use Rattle.shapes.specs.Texts.{Taken, unread, item, itemIn}
 use Rattle.wim.specs.Nouns.{WindowNumber, Host, Accepted, Item}
@@ -53,23 +53,10 @@ use Rattle.wim.specs.Points.Paper.{zeros, leaves, leavesAll}
 use Rattle.invariant.proofs.Numbered.Fresh.{in-among}
 use Rattle.invariant.proofs.Rooted.Tests.{or-neither, not-both}
 use Rattle.either_order.specs.Statement.{Made, empty, next, Apart}
-use Rattle.either_order.specs.TwoTabs.{setUp, setUpLines, here, following, loading, follow, load, documentsShown, questionsShown, inTheEnd, followsFirst, loadsFirst}
+use Rattle.either_order.specs.TwoTabs.{setUp, setUpLines, here, following, loading, redirecting, follow, load, redirect, documentsShown, questionsShown, inTheEnd, followsFirst, loadsFirst, redirectsFirst, redirectsLast}
 use Rattle.either_order.proofs.OnTexts.{either-order-on-texts}
 
--- BOTH ORDERS COMPUTED.
-pub the-lines : (prints followsFirst ≡ true) × (prints loadsFirst ≡ true)
-unfolding Answers.digitAt At.termAt At.termsAt At.stringAt At.numberAt At.markAt Decode.inside Decode.one Decode.end Decode.upTo Decode.perhaps Decode.atomOf Decode.either Decode.maps Decode.same Decode.word Decode.means Decode.numeral Decode.optionally Decode.optionalOf Decode.labelledOf Limits.shallow Limits.shallows Limits.endingOf Limits.wholeOf Read.run Read.number Read.mark Read.bytes Read.string Read.read Read.reads Read.term Read.terms Term.digits Term.decimal Term.write Term.writes Term.levels Term.levelsIn Encode.numberTerm Encode.optionalTerm Encode.each Encode.labelled Encode.joins Puts.over Table.find Table.keep Table.insert Table.lower Table.has Labels.clean Labels.isFresh Events.eventOf Items.unless Items.moreHeaders Texts.itemIn Rows.jar Cookies.cookieMerge Cookies.addCookies History.moved History.navBack History.navForward LocalSteps.isLocal LocalSteps.home LocalSteps.topOf LocalSteps.stands LocalSteps.hosts LocalSteps.names Main.urlbar Main.reload Main.forward Main.back Main.closeCorrupt Main.encryptedAnswer Main.plainAnswer Main.goOut Main.resolved Main.program Navigable.ancestorHas Navigable.navigableDirectly Navigable.follows Navigable.navigableMask Navigable.navigableSize Program.observed Program.run Response.windowCourse Response.scriptCourse Response.courseOf Response.takes Response.processResponse Run.playFrom Run.play Script.href Script.iframe Script.form Script.setting Script.xhr Script.close Script.deliver Script.postMessage Script.command Script.runScript Sending.send Step.allFresh Step.fits Step.stepTables Step.step Walks.documentsOf Walks.activeDocument Walks.windowNumbered Walks.documentNumbered Walks.above Walks.topAbove Walks.reachedFrom Walks.isUnder Walks.removal Wire.rehearse setUp setUpLines following loading
-the-lines = (refl, refl)
-
-pub the-rows : (documentsShown (leavesAll (following ∷ (loading ∷ [])) here .tables) ≡ inTheEnd) × (documentsShown (leavesAll (loading ∷ (following ∷ [])) here .tables) ≡ inTheEnd)
-unfolding Answers.digitAt At.termAt At.termsAt At.stringAt At.numberAt At.markAt Decode.inside Decode.one Decode.end Decode.upTo Decode.perhaps Decode.atomOf Decode.either Decode.maps Decode.same Decode.word Decode.means Decode.numeral Decode.optionally Decode.optionalOf Decode.labelledOf Limits.shallow Limits.shallows Limits.endingOf Limits.wholeOf Read.run Read.number Read.mark Read.bytes Read.string Read.read Read.reads Read.term Read.terms Term.digits Term.decimal Term.write Term.writes Term.levels Term.levelsIn Encode.numberTerm Encode.optionalTerm Encode.each Encode.labelled Encode.joins Puts.over Table.find Table.keep Table.insert Table.lower Table.has Labels.clean Labels.isFresh Events.eventOf Items.unless Items.moreHeaders Texts.itemIn Rows.jar Cookies.cookieMerge Cookies.addCookies History.moved History.navBack History.navForward LocalSteps.isLocal LocalSteps.home LocalSteps.topOf LocalSteps.stands LocalSteps.hosts LocalSteps.names Main.urlbar Main.reload Main.forward Main.back Main.closeCorrupt Main.encryptedAnswer Main.plainAnswer Main.goOut Main.resolved Main.program Navigable.ancestorHas Navigable.navigableDirectly Navigable.follows Navigable.navigableMask Navigable.navigableSize Program.observed Program.run Response.windowCourse Response.scriptCourse Response.courseOf Response.takes Response.processResponse Run.playFrom Run.play Script.href Script.iframe Script.form Script.setting Script.xhr Script.close Script.deliver Script.postMessage Script.command Script.runScript Sending.send Step.allFresh Step.fits Step.stepTables Step.step Walks.documentsOf Walks.activeDocument Walks.windowNumbered Walks.documentNumbered Walks.above Walks.topAbove Walks.reachedFrom Walks.isUnder Walks.removal Wire.rehearse setUp here following loading inTheEnd
-the-rows = (refl, refl)
-
-pub the-questions : (questionsShown (here .tables) ≡ 32 ∷ []) × (questionsShown (leavesAll (following ∷ (loading ∷ [])) here .tables) ≡ 31 ∷ []) × (questionsShown (leavesAll (loading ∷ (following ∷ [])) here .tables) ≡ 31 ∷ [])
-unfolding Answers.digitAt At.termAt At.termsAt At.stringAt At.numberAt At.markAt Decode.inside Decode.one Decode.end Decode.upTo Decode.perhaps Decode.atomOf Decode.either Decode.maps Decode.same Decode.word Decode.means Decode.numeral Decode.optionally Decode.optionalOf Decode.labelledOf Limits.shallow Limits.shallows Limits.endingOf Limits.wholeOf Read.run Read.number Read.mark Read.bytes Read.string Read.read Read.reads Read.term Read.terms Term.digits Term.decimal Term.write Term.writes Term.levels Term.levelsIn Encode.numberTerm Encode.optionalTerm Encode.each Encode.labelled Encode.joins Puts.over Table.find Table.keep Table.insert Table.lower Table.has Labels.clean Labels.isFresh Events.eventOf Items.unless Items.moreHeaders Texts.itemIn Rows.jar Cookies.cookieMerge Cookies.addCookies History.moved History.navBack History.navForward LocalSteps.isLocal LocalSteps.home LocalSteps.topOf LocalSteps.stands LocalSteps.hosts LocalSteps.names Main.urlbar Main.reload Main.forward Main.back Main.closeCorrupt Main.encryptedAnswer Main.plainAnswer Main.goOut Main.resolved Main.program Navigable.ancestorHas Navigable.navigableDirectly Navigable.follows Navigable.navigableMask Navigable.navigableSize Program.observed Program.run Response.windowCourse Response.scriptCourse Response.courseOf Response.takes Response.processResponse Run.playFrom Run.play Script.href Script.iframe Script.form Script.setting Script.xhr Script.close Script.deliver Script.postMessage Script.command Script.runScript Sending.send Step.allFresh Step.fits Step.stepTables Step.step Walks.documentsOf Walks.activeDocument Walks.windowNumbered Walks.documentNumbered Walks.above Walks.topAbove Walks.reachedFrom Walks.isUnder Walks.removal Wire.rehearse setUp here following loading
-the-questions = (refl, refl, refl)
-
--- LISTS WITHOUT A LABEL IN COMMON.
+-- LABELS IN COMMON.
 abbrev meet : List Label → List Label → Bool
 meet [] ns = false
 meet (m ∷ ms) ns = among m ns || meet ms ns
@@ -78,40 +65,55 @@ never-both : (ms ns : List Label) → meet ms ns ≡ false → (l : Label) → I
 never-both (m ∷ ms) ns e l (inl p) j = not-both (in-among m ns (subst (λ (v : Label). In v ns) p j)) (or-neither (among m ns) (meet ms ns) e .0)
 never-both (m ∷ ms) ns e l (inr i) j = never-both ms ns (or-neither (among m ns) (meet ms ns) e .1) l i j
 
--- THE PREMISES ARE MET.
-record Premises : Type 0 where
-  follow-read : itemIn (text following) ≡ item follow
-  load-read : itemIn (text loading) ≡ item load
-  follow-local : isLocal (follow .event) ≡ true
-  load-local : isLocal (load .event) ≡ true
-  eight-free : every (λ t. leb (length (here .tables t) + 8) (cap t)) ≡ true
-  follow-stands : stands (follow .event) (here .tables) ≡ some (record { 0 = 30 })
-  load-stands : stands (load .event) (here .tables) ≡ some (record { 0 = 40 })
-  follow-hosts : hosts (follow .event) (here .tables) ≡ record { 0 = 5 } ∷ (record { 0 = 7 } ∷ [])
-  load-hosts : hosts (load .event) (here .tables) ≡ record { 0 = 6 } ∷ []
-  new-new : meet (freshLabels (follow .fresh)) (freshLabels (load .fresh)) ≡ false
-  new-named : meet (freshLabels (follow .fresh)) (names (load .event)) ≡ false
-  named-new : meet (names (follow .event)) (freshLabels (load .fresh)) ≡ false
-  follow-accepted : rehearse (text following) here (zeros 100) 0 .verdict ≡ Accepted
-  load-accepted : rehearse (text loading) here [] 0 .verdict ≡ Accepted
+abbrev topLabel : Option WindowNumber → List Label
+topLabel none = []
+topLabel (some t) = (window, t .0) ∷ []
 
-premises : Premises
-unfolding Answers.digitAt At.termAt At.termsAt At.stringAt At.numberAt At.markAt Decode.inside Decode.one Decode.end Decode.upTo Decode.perhaps Decode.atomOf Decode.either Decode.maps Decode.same Decode.word Decode.means Decode.numeral Decode.optionally Decode.optionalOf Decode.labelledOf Limits.shallow Limits.shallows Limits.endingOf Limits.wholeOf Read.run Read.number Read.mark Read.bytes Read.string Read.read Read.reads Read.term Read.terms Term.digits Term.decimal Term.write Term.writes Term.levels Term.levelsIn Encode.numberTerm Encode.optionalTerm Encode.each Encode.labelled Encode.joins Puts.over Table.find Table.keep Table.insert Table.lower Table.has Labels.clean Labels.isFresh Events.eventOf Items.unless Items.moreHeaders Texts.itemIn Rows.jar Cookies.cookieMerge Cookies.addCookies History.moved History.navBack History.navForward LocalSteps.isLocal LocalSteps.home LocalSteps.topOf LocalSteps.stands LocalSteps.hosts LocalSteps.names Main.urlbar Main.reload Main.forward Main.back Main.closeCorrupt Main.encryptedAnswer Main.plainAnswer Main.goOut Main.resolved Main.program Navigable.ancestorHas Navigable.navigableDirectly Navigable.follows Navigable.navigableMask Navigable.navigableSize Program.observed Program.run Response.windowCourse Response.scriptCourse Response.courseOf Response.takes Response.processResponse Run.playFrom Run.play Script.href Script.iframe Script.form Script.setting Script.xhr Script.close Script.deliver Script.postMessage Script.command Script.runScript Sending.send Step.allFresh Step.fits Step.stepTables Step.step Walks.documentsOf Walks.activeDocument Walks.windowNumbered Walks.documentNumbered Walks.above Walks.topAbove Walks.reachedFrom Walks.isUnder Walks.removal Wire.rehearse setUp here following loading follow load
-premises = record {
-  follow-read = refl;
-  load-read = refl;
-  follow-local = refl;
-  load-local = refl;
+abbrev hostLabels : List Host → List Label
+hostLabels hs = map (λ (h : Host). (host, h .0)) hs
+
+-- WHAT IS COMPUTED of one item: what it is read as, its hosts, where it stands, that it is accepted.
+record Alone (s : String) (i : Item) (out : List ℕ) (top : Option WindowNumber) (hs : List Host) : Type 0 where
+  is-read : itemIn (text s) ≡ item i
+  is-local : isLocal (i .event) ≡ true
+  has-hosts : hosts (i .event) (here .tables) ≡ hs
+  stands-under : stands (i .event) (here .tables) ≡ top
+  is-accepted : rehearse (text s) here out 0 .verdict ≡ Accepted
+
+-- and of two: that nothing is in common
+record Beside (i j : Item) : Type 0 where
+  tops : meet (topLabel (stands (i .event) (here .tables))) (topLabel (stands (j .event) (here .tables))) ≡ false
+  no-host : meet (hostLabels (hosts (i .event) (here .tables))) (hostLabels (hosts (j .event) (here .tables))) ≡ false
+  new-new : meet (freshLabels (i .fresh)) (freshLabels (j .fresh)) ≡ false
+  new-named : meet (freshLabels (i .fresh)) (names (j .event)) ≡ false
+  named-new : meet (names (i .event)) (freshLabels (j .fresh)) ≡ false
+
+pub record Computed : Type 0 where
+  eight-free : every (λ t. leb (length (here .tables t) + 8) (cap t)) ≡ true
+  following-alone : Alone following follow (zeros 100) (some (record { 0 = 30 })) (record { 0 = 5 } ∷ (record { 0 = 7 } ∷ []))
+  loading-alone : Alone loading load [] (some (record { 0 = 40 })) (record { 0 = 6 } ∷ [])
+  -- the redirect stands under none, and the Location's host is none of its hosts
+  redirecting-alone : Alone redirecting redirect [] none (record { 0 = 8 } ∷ [])
+  following-beside : Beside follow load
+  redirecting-beside : Beside redirect load
+  -- both orders print the lines that are written out
+  pub lines : (prints followsFirst ≡ true) × (prints loadsFirst ≡ true) × (prints redirectsFirst ≡ true) × (prints redirectsLast ≡ true)
+  pub rows : (documentsShown (leavesAll (following ∷ (loading ∷ [])) here .tables) ≡ inTheEnd) × (documentsShown (leavesAll (loading ∷ (following ∷ [])) here .tables) ≡ inTheEnd)
+  -- the question that waits is cancelled
+  pub questions : (questionsShown (here .tables) ≡ 32 ∷ []) × (questionsShown (leavesAll (following ∷ (loading ∷ [])) here .tables) ≡ 31 ∷ []) × (questionsShown (leavesAll (loading ∷ (following ∷ [])) here .tables) ≡ 31 ∷ [])
+
+pub computed : Computed
+unfolding Answers.digitAt At.termAt At.termsAt At.stringAt At.numberAt At.markAt Decode.inside Decode.one Decode.end Decode.upTo Decode.perhaps Decode.atomOf Decode.either Decode.maps Decode.same Decode.word Decode.means Decode.numeral Decode.optionally Decode.optionalOf Decode.labelledOf Limits.shallow Limits.shallows Limits.endingOf Limits.wholeOf Read.run Read.number Read.mark Read.bytes Read.string Read.read Read.reads Read.term Read.terms Term.digits Term.decimal Term.write Term.writes Term.levels Term.levelsIn Encode.numberTerm Encode.optionalTerm Encode.each Encode.labelled Encode.joins Puts.over Table.find Table.keep Table.insert Table.lower Table.has Labels.clean Labels.isFresh Events.eventOf Items.unless Items.moreHeaders Texts.itemIn Rows.jar Cookies.cookieMerge Cookies.addCookies History.moved History.navBack History.navForward LocalSteps.isLocal LocalSteps.home LocalSteps.topOf LocalSteps.stands LocalSteps.hosts LocalSteps.names Main.urlbar Main.reload Main.forward Main.back Main.closeCorrupt Main.encryptedAnswer Main.plainAnswer Main.goOut Main.resolved Main.program Navigable.ancestorHas Navigable.navigableDirectly Navigable.follows Navigable.navigableMask Navigable.navigableSize Program.observed Program.run Response.windowCourse Response.scriptCourse Response.courseOf Response.takes Response.processResponse Run.playFrom Run.play Script.href Script.iframe Script.form Script.setting Script.xhr Script.close Script.deliver Script.postMessage Script.command Script.runScript Sending.send Step.allFresh Step.fits Step.stepTables Step.step Walks.documentsOf Walks.activeDocument Walks.windowNumbered Walks.documentNumbered Walks.above Walks.topAbove Walks.reachedFrom Walks.isUnder Walks.removal Wire.rehearse setUp setUpLines here following loading redirecting follow load redirect inTheEnd
+computed = record {
   eight-free = refl;
-  follow-stands = refl;
-  load-stands = refl;
-  follow-hosts = refl;
-  load-hosts = refl;
-  new-new = refl;
-  new-named = refl;
-  named-new = refl;
-  follow-accepted = refl;
-  load-accepted = refl;
+  following-alone = record { is-read = refl; is-local = refl; has-hosts = refl; stands-under = refl; is-accepted = refl };
+  loading-alone = record { is-read = refl; is-local = refl; has-hosts = refl; stands-under = refl; is-accepted = refl };
+  redirecting-alone = record { is-read = refl; is-local = refl; has-hosts = refl; stands-under = refl; is-accepted = refl };
+  following-beside = record { tops = refl; no-host = refl; new-new = refl; new-named = refl; named-new = refl };
+  redirecting-beside = record { tops = refl; no-host = refl; new-new = refl; new-named = refl; named-new = refl };
+  lines = (refl, refl, refl, refl);
+  rows = (refl, refl);
+  questions = (refl, refl, refl);
 }
 
 -- accepted steps have made the browser
@@ -134,27 +136,33 @@ made-here : Made here
 unfolding here
 made-here = made-all setUp emptyBrowser empty
 
-apart : Apart follow load (here .tables)
-apart = record {
-  tops = λ t p q. thirty t (some-eq (sym p ∙ premises .follow-stands)) (some-eq (sym q ∙ premises .load-stands));
-  no-host = λ h i j. other-host h (subst (In h) (premises .follow-hosts) i) (subst (In h) (premises .load-hosts) j);
-  new-new = λ l. never-both (freshLabels (follow .fresh)) (freshLabels (load .fresh)) (premises .new-new) l;
-  new-named = λ l. never-both (freshLabels (follow .fresh)) (names (load .event)) (premises .new-named) l;
-  named-new = λ l. never-both (names (follow .event)) (freshLabels (load .fresh)) (premises .named-new) l;
+-- THE PREMISES ARE MET.
+apart : (i j : Item) → Beside i j → Apart i j (here .tables)
+apart i j B = record {
+  tops = λ t p q. never-both (topLabel (stands (i .event) (here .tables))) (topLabel (stands (j .event) (here .tables))) (B .tops) (window, t .0) (under t (stands (i .event) (here .tables)) p) (under t (stands (j .event) (here .tables)) q);
+  no-host = λ h p q. never-both (hostLabels (hosts (i .event) (here .tables))) (hostLabels (hosts (j .event) (here .tables))) (B .no-host) (host, h .0) (labelled h (hosts (i .event) (here .tables)) p) (labelled h (hosts (j .event) (here .tables)) q);
+  new-new = λ l. never-both (freshLabels (i .fresh)) (freshLabels (j .fresh)) (B .new-new) l;
+  new-named = λ l. never-both (freshLabels (i .fresh)) (names (j .event)) (B .new-named) l;
+  named-new = λ l. never-both (names (i .event)) (freshLabels (j .fresh)) (B .named-new) l;
 }
   where
-    some-eq : {v w : WindowNumber} → some v ≡ some w → v ≡ w
-    some-eq e = cc
+    under : (t : WindowNumber) (o : Option WindowNumber) → o ≡ some t → In (window, t .0) (topLabel o)
+    under t o e = subst (λ (x : Option WindowNumber). In (window, t .0) (topLabel x)) (sym e) (inl refl)
 
-    thirty : (t : WindowNumber) → t ≡ record { 0 = 30 } → t ≡ record { 0 = 40 } → ⊥
-    thirty t p q = let x : t .0 ≡ 30 = ap (λ (v : WindowNumber). v .0) p in let y : t .0 ≡ 40 = ap (λ (v : WindowNumber). v .0) q in omega arith
+    labelled : (h : Host) (hs : List Host) → In h hs → In (host, h .0) (hostLabels hs)
+    labelled h hs k = map-in (λ (x : Host). (host, x .0)) hs h k
 
-    other-host : (h : Host) → In h (record { 0 = 5 } ∷ (record { 0 = 7 } ∷ [])) → In h (record { 0 = 6 } ∷ []) → ⊥
-    other-host h (inl p) (inl q) = let x : h .0 ≡ 5 = ap (λ (v : Host). v .0) p in let y : h .0 ≡ 6 = ap (λ (v : Host). v .0) q in omega arith
-    other-host h (inr (inl p)) (inl q) = let x : h .0 ≡ 7 = ap (λ (v : Host). v .0) p in let y : h .0 ≡ 6 = ap (λ (v : Host). v .0) q in omega arith
+-- so the theorem speaks of them: the browsers are the same, to the last row
+abbrev Same : String → String → List ℕ → List ℕ → Type 0
+Same s u out lent = rehearse (text u) (rehearse (text s) here out 0 .browser) lent 0 .browser ≡ rehearse (text s) (rehearse (text u) here lent 0 .browser) out 0 .browser
 
--- so the theorem speaks of it: the browsers are the same, to the last row
-pub same-browser : rehearse (text loading) (rehearse (text following) here (zeros 100) 0 .browser) [] 0 .browser ≡ rehearse (text following) (rehearse (text loading) here [] 0 .browser) (zeros 100) 0 .browser
-same-browser =
-    either-order-on-texts here made-here (λ t. leb-true (length (here .tables t) + 8) (cap t) (every-one (λ u. leb (length (here .tables u) + 8) (cap u)) (premises .eight-free) t))
-    (text following) (text loading) follow load (premises .follow-read) (premises .load-read) (premises .follow-local) (premises .load-local) apart (zeros 100) [] 0 0 (premises .follow-accepted) (premises .load-accepted) .2
+same : (s u : String) (i j : Item) (out lent : List ℕ) {ti tj : Option WindowNumber} {hi hj : List Host} → Alone s i out ti hi → Alone u j lent tj hj → Beside i j → Same s u out lent
+same s u i j out lent I J B =
+    either-order-on-texts here made-here (λ t. leb-true (length (here .tables t) + 8) (cap t) (every-one (λ u. leb (length (here .tables u) + 8) (cap u)) (computed .eight-free) t))
+    (text s) (text u) i j (I .is-read) (J .is-read) (I .is-local) (J .is-local) (apart i j B) out lent 0 0 (I .is-accepted) (J .is-accepted) .2
+
+pub same-browser : Same following loading (zeros 100) [] × Same redirecting loading [] []
+same-browser = (
+  same following loading follow load (zeros 100) [] (computed .following-alone) (computed .loading-alone) (computed .following-beside),
+  same redirecting loading redirect load [] [] (computed .redirecting-alone) (computed .loading-alone) (computed .redirecting-beside),
+)

@@ -1,17 +1,19 @@
 -- An example: two tabs. In one a script stores and follows a link in its own window, which cancels a question that waits there; in the other an
 -- answer sets a cookie and loads a page. The cancelled question is for the host of the answer: it goes by where it leads, not by its host.
+-- Beside that answer stands another one, a redirect to its host for a window that has been closed: nothing goes there, so the two are apart.
 use mathlib.Core.Bool.{Bool, true, false}
 use mathlib.Core.List.{List, [], _∷_, _++_, map}
 use Prim.Native.Nat.{ℕ}
 use Prim.Native.String.{String}
 use Rattle.tables.specs.Tables.{documents, pendingDNS, Tables}
 use Rattle.shapes.specs.Items.{setCookies}
-use Rattle.wim.specs.Nouns.{Plain, Absent, Unset, Cookie, Url, Existing, Href, Nowhere, Page, RunScript, PlainAnswer, Item, Document, Question}
+use Rattle.wim.specs.Nouns.{Plain, Absent, Unset, Cookie, Url, Existing, Href, Nowhere, To, Number, Page, RunScript, PlainAnswer, Item, Document, Question}
 use Rattle.wim.specs.Step.{Browser, emptyBrowser}
 use Rattle.wim.specs.Points.Compared.{Run}
 use Rattle.wim.specs.Points.Paper.{leavesAll}
 
--- window 30 shows a page of host 5, and host 6 is asked for there; window 40 shows a page of host 6, whose next page has been requested
+-- window 30 shows a page of host 5, and host 6 is asked for there; window 40 shows a page of host 6, whose next page has been requested; window 50,
+-- which 30 opened, was closed while its page of host 8 was on its way
 unfoldable pub setUp : List String
 setUp =
     "((1:11:17:TRIGGER)(6:urlbar3:new1:P1:51:7()())((6:window2:30)(7:request2:30)(3:dns2:30)))"
@@ -23,6 +25,9 @@ setUp =
     ∷ "((1:11:17:TRIGGER)(6:urlbar(6:window2:40)1:P1:61:8()())((7:request2:41)(3:dns2:41)))"
     ∷ "((1:11:1(11:DNSResolved1:61:9(3:dns2:41)))()())"
     ∷ "((1:11:17:TRIGGER)(6:urlbar(6:window2:30)1:P1:61:9()())((7:request2:32)(3:dns2:32)))"
+    ∷ "((1:11:17:TRIGGER)(6:script(6:window2:30)1:0()()()(4:HREF(3:URL1:P1:81:7()())6:_BLANK1:F))((6:window2:50)(7:request2:50)(3:dns2:50)))"
+    ∷ "((1:11:1(11:DNSResolved1:81:9(3:dns2:50)))()())"
+    ∷ "((1:11:17:TRIGGER)(6:script(6:window2:30)1:0()()()(5:CLOSE(6:window2:50)))())"
     ∷ []
 
 unfoldable pub setUpLines : List String
@@ -36,6 +41,9 @@ setUpLines =
     ∷ "(1:21:1(10:DNSResolve1:6(3:dns2:41)))"
     ∷ "(1:91:1(7:HTTPReq(7:request2:41)3:GET1:61:8()((6:Cookie()))()))"
     ∷ "(1:21:1(10:DNSResolve1:6(3:dns2:32)))"
+    ∷ "(1:21:1(10:DNSResolve1:8(3:dns2:50)))"
+    ∷ "(1:91:1(7:HTTPReq(7:request2:50)3:GET1:81:7()((6:Cookie())(7:Referer(3:URL1:P1:51:7()())))()))"
+    ∷ "()"
     ∷ []
 
 unfoldable pub here : Browser
@@ -49,15 +57,19 @@ following = "((1:11:17:TRIGGER)(6:script(6:window2:30)1:2((1:3(1:11:F1:F1:F)))1:
 unfoldable pub loading : String
 loading = "((1:11:1(8:HTTPResp(7:request2:41)3:200((10:Set-Cookie((1:3(1:91:F1:F1:F)))))(1:11:0)))()((8:document2:41)))"
 
+-- the answer for window 50, which is gone: a cookie, and a Location on host 6 that is not followed
+unfoldable pub redirecting : String
+redirecting = "((1:11:1(8:HTTPResp(7:request2:50)3:303((10:Set-Cookie((1:3(1:71:F1:F1:F))))(8:Location(3:URL1:P1:61:8()())))1:0))()())"
+
 abbrev cookie3 : ℕ → Cookie
 cookie3 v = record { name = record { prefixed = false; number = 3 }; value = record { 0 = v }; secure = false; session = false; httponly = false }
 
-abbrev host7 : Url
-host7 = record { protocol = Plain; host = record { 0 = 7 }; path = record { 0 = 8 }; parameters = record { 0 = 0 }; fragment = Absent }
+abbrev path8 : ℕ → Url
+path8 h = record { protocol = Plain; host = record { 0 = h }; path = record { 0 = 8 }; parameters = record { 0 = 0 }; fragment = Absent }
 
 unfoldable pub follow : Item
 follow = record {
-  event = RunScript (record { 0 = 30 }) (record { state = record { 0 = 2 }; local = record { 0 = 4 }; session = record { 0 = 5 }; command = Href host7 (Existing (record { 0 = 30 })) false });
+  event = RunScript (record { 0 = 30 }) (record { state = record { 0 = 2 }; local = record { 0 = 4 }; session = record { 0 = 5 }; command = Href (path8 7) (Existing (record { 0 = 30 })) false });
   cookies = setCookies (cookie3 1 ∷ []);
   fresh = record { window = record { 0 = 0 }; request = record { 0 = 31 }; dns = record { 0 = 31 }; key = record { 0 = 0 }; document = record { 0 = 0 } };
 }
@@ -67,6 +79,13 @@ load = record {
   event = PlainAnswer (record { number = record { 0 = 41 }; status = record { 0 = 200 }; location = Nowhere; strict = false; policy = Unset; body = Page (record { 0 = 1 }) (record { 0 = 0 }) });
   cookies = setCookies (cookie3 9 ∷ []);
   fresh = record { window = record { 0 = 0 }; request = record { 0 = 0 }; dns = record { 0 = 0 }; key = record { 0 = 0 }; document = record { 0 = 41 } };
+}
+
+unfoldable pub redirect : Item
+redirect = record {
+  event = PlainAnswer (record { number = record { 0 = 50 }; status = record { 0 = 303 }; location = To (path8 6); strict = false; policy = Unset; body = Number 0 });
+  cookies = setCookies (cookie3 7 ∷ []);
+  fresh = record { window = record { 0 = 0 }; request = record { 0 = 0 }; dns = record { 0 = 0 }; key = record { 0 = 0 }; document = record { 0 = 0 } };
 }
 
 -- what a document row says of its history and of its script
@@ -99,3 +118,9 @@ followsFirst = record { items = setUp ++ (following ∷ (loading ∷ [])); lines
 
 abbrev pub loadsFirst : Run
 loadsFirst = record { items = setUp ++ (loading ∷ (following ∷ [])); lines = setUpLines ++ ("()" ∷ ("(1:21:1(10:DNSResolve1:7(3:dns2:31)))" ∷ [])) }
+
+abbrev pub redirectsFirst : Run
+redirectsFirst = record { items = setUp ++ (redirecting ∷ (loading ∷ [])); lines = setUpLines ++ ("()" ∷ ("()" ∷ [])) }
+
+abbrev pub redirectsLast : Run
+redirectsLast = record { items = setUp ++ (loading ∷ (redirecting ∷ [])); lines = setUpLines ++ ("()" ∷ ("()" ∷ [])) }
