@@ -6,8 +6,9 @@ use Prim.Native.Nat.{ℕ}
 use borrow.Author.Tests.{le-leb}
 use lib.Dec.{leb}
 use lib.ListN.{length}
-use Rattle.sorted.specs.Table.{put, sift, keep}
+use Rattle.sorted.specs.Table.{put, sift}
 use Rattle.sorted.proofs.Count.{taken-fits}
+use Rattle.sorted.proofs.Member.{keep-none}
 use Rattle.tables.specs.Tables.{Table, Row, keyOf, cmp, cap, changed, update, apply}
 use Rattle.tables.proofs.Update.{each}
 use Rattle.wim.specs.Step.{fit}
@@ -22,11 +23,6 @@ capacities = each (λ t. laid t .capacity ≡ cap t) refl refl refl refl refl re
 -- a memory's tables always fit
 pub view-fits : (m : List ℕ) (t : Table) → fit (view m) t ≡ true
 view-fits m t = ap (leb (length (view m t))) (sym (capacities t)) ∙ le-leb _ _ (taken-fits (count (laid t) m) (laid t .capacity) (rows (laid t) m) (rows-length (laid t) m))
-
-keep-none : {A : Type 0} (l : List A) → keep (λ r. false) l ≡ []
-unfolding keep
-keep-none [] = refl
-keep-none (r ∷ l) = keep-none l
 
 module _ (t : Table) {m n : List ℕ} where
   pub view-kept : {p : Row t → Bool} → Kept (laid t) p m n → view n ≡ apply t (sift p ∷ []) (view m)

@@ -21,7 +21,7 @@ use Rattle.wim.specs.LocalSteps.{asked, awaited, home, topOfDocument, topOf, na
 use Rattle.wim.proofs.Walks.{above-row}
 use Rattle.tables.proofs.Update.{linear}
 use Rattle.invariant.proofs.Numbered.Fresh.{Absent}
-use Rattle.wim.proofs.Numbers.{found-document}
+use Rattle.wim.proofs.Numbers.{row-numbered, found-document}
 use Rattle.either_order.proofs.Sight.{has-key}
 use Rattle.either_order.proofs.Listed.{tie-mentioned, ref-mentioned}
 use Rattle.either_order.proofs.Colour.{colourless, topColour, topOfLabel, requestColour, askedFor, keyedBy, colour, questionColour, waitingColour, colour-leads}
@@ -36,7 +36,10 @@ coloured b window n c h = go (above (b windows) (b documents) w) refl c
     w = record { 0 = n }
 
     stands-in : (u : Above) → above (b windows) (b documents) w ≡ u → (u ≡ missing → ⊥) → window ≡ host
-    stands-in u e k = let z = above-row (b windows) (b documents) w u e k in absurd (h .nowhere windows (z .0) (z .1) (inl (ap (λ (v : WindowNumber). (window, v .0)) (sym (z .2)))))
+    stands-in u e k =
+        let r = above-row (b windows) (b documents) w u e k in
+        let z = row-numbered (b windows) w (r .0) (r .1) in
+        absurd (h .nowhere windows (r .0) (z .0) (inl (ap (λ (v : WindowNumber). (window, v .0)) (sym (z .1)))))
 
     go : (u : Above) → above (b windows) (b documents) w ≡ u → (topColour (topAt (topAbove 31 (b windows) (b documents)) w u) ≡ colourless → ⊥) → window ≡ host
     go missing e c = absurd (c refl)

@@ -51,7 +51,10 @@ module _ (b : Tables) (l : Label) (ab : Absent l b) where
 
   not-reached : (w top : WindowNumber) → observed (reached w) b ≡ some top → l ≡ (window, w .0) → ⊥
   unfolding observed
-  not-reached w top e k = let z = reached-row (b windows) (b documents) steps w top e in no-row w (z .0) (z .1) (z .2) k
+  not-reached w top e k =
+      let r = reached-row (b windows) (b documents) steps w top e in
+      let z = row-numbered (b windows) w (r .0) (r .1) in
+      no-row w (r .0) (z .0) (z .1) k
 
   not-top : (w : WindowNumber) → observed (topLevel w) b ≡ true → l ≡ (window, w .0) → ⊥
   unfolding observed

@@ -52,6 +52,11 @@ module _ {A : Type 0} where
       go false f (inl p) ih = let z : q x ≡ q y = ap q p in never (cc)
       go false f (inr j) ih = ih j
 
+  pub keep-none : (l : List A) → keep (λ x. false) l ≡ []
+  unfolding keep
+  keep-none [] = refl
+  keep-none (x ∷ l) = keep-none l
+
   pub length-keep : (q : A → Bool) (l : List A) → length (keep q l) ≤ length l
   unfolding keep
   length-keep q [] = omega arith

@@ -14,7 +14,7 @@ use Rattle.wim.specs.Walks.{activeDocument, hasOrigin, Above, missing, t
 use Rattle.wim.specs.Navigable.{ChildOf⁺, child, further, ChildOf*, HasOrigin, openerOf, Navigable, same-origin, top-level, ancestor, opened, ancestorAt, ancestorHas, isWindow, navigableDirectly, follows, mayNavigate}
 use Rattle.sorted.proofs.Never.{never}
 use Rattle.sorted.proofs.Tests.{and-left, and-right, and-both, or-one, or-left, or-right}
-use Rattle.wim.proofs.Numbers.{same-window, window-same}
+use Rattle.wim.proofs.Numbers.{same-window, window-same, row-numbered}
 use Rattle.wim.proofs.Pigeon.{pigeon}
 use Rattle.wim.proofs.Walks.{reached-up, reached-from, has-row}
 
@@ -215,7 +215,10 @@ module _ (ws : List Window) (ds : List Document) (o : Origin) where
 
     -- on the way every distance is met, at a window with a row
     far-row : (n : ℕ) (v : WindowNumber) → Far n v → (r : Window) × In r ws × Far n (r .number)
-    far-row n v h = let z = has-row ws ds v (follows-reached (suc n) v (h .1)) in (z .0, z .1, subst (Far n) (sym (z .2)) h)
+    far-row n v h =
+        let r = has-row ws ds v (follows-reached (suc n) v (h .1)) in
+        let z = row-numbered ws v (r .0) (r .1) in
+        (r .0, z .0, subst (Far n) (sym (z .1)) h)
 
     distances : (n : ℕ) (v : WindowNumber) → Far n v → (m : ℕ) → m ≤ n → (r : Window) × In r ws × Far m (r .number)
     distances zero v h m l = let e : 0 ≡ m = omega arith in far-row m v (subst (λ (k : ℕ). Far k v) e h)

@@ -5,21 +5,20 @@ use mathlib.Core.List.{List}
 use mathlib.Core.Option.{Option, none, some}
 use Prim.Native.Nat.{ℕ, zero, suc, _≤_}
 use native.Mathlib.Decide.{le-ind}
-use Rattle.sorted.specs.Table.{In, isSome}
+use Rattle.sorted.specs.Table.{isSome}
 use Rattle.wim.specs.Nouns.{WindowNumber, Window, Document}
 use Rattle.wim.specs.Walks.{Above, missing, topmost, heldBy, aboveRow, above, topAt, reachedAt, steps, windowNumbered, topAbove, reachedFrom, isReached}
 use Rattle.sorted.proofs.Never.{never}
-use Rattle.wim.proofs.Numbers.{row-numbered}
 
 module _ (ws : List Window) (ds : List Document) where
   -- what stands above a window is known only of a window with a row
-  pub above-row : (v : WindowNumber) (u : Above) → above ws ds v ≡ u → (u ≡ missing → ⊥) → (r : Window) × In r ws × (r .number ≡ v)
+  pub above-row : (v : WindowNumber) (u : Above) → above ws ds v ≡ u → (u ≡ missing → ⊥) → (r : Window) × (windowNumbered ws v ≡ some r)
   unfolding above
   above-row v u e n = go (windowNumbered ws v) refl e
     where
-      go : (a : Option Window) → windowNumbered ws v ≡ a → aboveRow ds a ≡ u → (r : Window) × In r ws × (r .number ≡ v)
+      go : (a : Option Window) → windowNumbered ws v ≡ a → aboveRow ds a ≡ u → (r : Window) × (windowNumbered ws v ≡ some r)
       go none f g = absurd (n (sym g))
-      go (some r) f g = let z = row-numbered ws v r f in (r, z .0, z .1)
+      go (some r) f g = (r, f)
 
   -- MORE STEPS.
   top-next : (n : ℕ) (v t : WindowNumber) → topAbove n ws ds v ≡ some t → topAbove (suc n) ws ds v ≡ some t
@@ -63,12 +62,12 @@ module _ (ws : List Window) (ds : List Document) where
       go true f e = (f, e)
       go false f e = never (cc)
 
-  pub reached-row : (n : ℕ) (v t : WindowNumber) → reachedFrom n ws ds v ≡ some t → (r : Window) × In r ws × (r .number ≡ v)
+  pub reached-row : (n : ℕ) (v t : WindowNumber) → reachedFrom n ws ds v ≡ some t → (r : Window) × (windowNumbered ws v ≡ some r)
   unfolding reachedFrom
   reached-row zero v t e = never (cc)
   reached-row (suc n) v t e = go (above ws ds v) refl e
     where
-      go : (u : Above) → above ws ds v ≡ u → reachedAt (reachedFrom n ws ds) v u ≡ some t → (r : Window) × In r ws × (r .number ≡ v)
+      go : (u : Above) → above ws ds v ≡ u → reachedAt (reachedFrom n ws ds) v u ≡ some t → (r : Window) × (windowNumbered ws v ≡ some r)
       go missing f e = never (cc)
       go topmost f e = above-row v topmost f (λ q. never (cc))
       go (heldBy d) f e = above-row v (heldBy d) f (λ q. never (cc))
@@ -95,5 +94,5 @@ module _ (ws : List Window) (ds : List Document) where
       go none f g = never (cc)
       go (some t) f g = (t, f)
 
-  pub has-row : (v : WindowNumber) → isReached ws ds v ≡ true → (r : Window) × In r ws × (r .number ≡ v)
+  pub has-row : (v : WindowNumber) → isReached ws ds v ≡ true → (r : Window) × (windowNumbered ws v ≡ some r)
   has-row v e = let z = reached-from v e in reached-row steps v (z .0) (z .1)

@@ -14,8 +14,8 @@ use Rattle.wim.specs.Program.{observed, reached, listening, when, listens}
 use Rattle.wim.specs.Response.{actOnHeaders, whereTo, upTo, newDocument, windowCourse, scriptCourse, courseOf, takes, processResponse}
 use Rattle.wim.specs.Invariant.{Numbered}
 use Rattle.wim.proofs.Numbers.{found-document}
+use Rattle.wim.proofs.Walks.{reached-row}
 use Rattle.invariant.proofs.Rooted.Stands.{Stands}
-use Rattle.invariant.proofs.Rooted.Lines.{reached-row}
 use Rattle.invariant.proofs.Rooted.Loaded.{stands-load}
 use Rattle.invariant.proofs.Rooted.Walk.{Keeps}
 use Rattle.invariant.proofs.Rooted.Fresh.{Fresh, new-document}

@@ -1,10 +1,9 @@
 -- Every event keeps the tables standing, so every accepted step keeps them rooted.
-use mathlib.Core.Path.{_≡_, refl, sym, subst₃}
-use mathlib.Core.Bool.{false}
-use mathlib.Core.List.{List, [], _∷_}
+use mathlib.Core.Path.{_≡_, sym, subst₃}
+use mathlib.Core.List.{List}
 use mathlib.Core.Option.{Option}
 use lib.Dec.{eqb}
-use Rattle.sorted.specs.Table.{keep}
+use Rattle.sorted.proofs.Member.{keep-none}
 use Rattle.tables.specs.Tables.{windows, documents, inputs, Tables, noRows}
 use Rattle.tables.specs.Labels.{Label}
 use Rattle.tables.specs.Rows.{sameHost}
@@ -22,11 +21,6 @@ use Rattle.invariant.proofs.Rooted.Touched.{Whole, kept-send, untouched
 use Rattle.invariant.proofs.Rooted.Blocks.{whole-top}
 use Rattle.invariant.proofs.Rooted.Commands.{kept-back, kept-forward, kept-script}
 use Rattle.invariant.proofs.Rooted.Answers.{kept-response}
-
-keep-none : {A : Type 0} (l : List A) → keep (λ x. false) l ≡ []
-unfolding keep
-keep-none [] = refl
-keep-none (x ∷ l) = keep-none l
 
 module _ (b : Tables) (N : Numbered b) (S : Stands (b windows) (b documents) (b inputs)) where
   -- TRIGGERS

@@ -10,7 +10,7 @@ use Rattle.sorted.proofs.Never.{never}
 use Rattle.tables.specs.Rows.{oneOf}
 use Rattle.wim.specs.Nouns.{WindowNumber, DocumentNumber, Window, Document, Parent, Top, Under}
 use Rattle.wim.proofs.Walks.{top-more}
-use Rattle.wim.specs.Walks.{Above, missing, topmost, heldBy, aboveDocument, aboveParent, aboveRow, above, topAt, reachedAt, underAt, windowNumbered, documentNumbered, topAbove, reachedFrom, isUnder}
+use Rattle.wim.specs.Walks.{Above, missing, topmost, heldBy, aboveDocument, aboveParent, aboveRow, above, topAt, underAt, windowNumbered, documentNumbered, topAbove, isUnder}
 use Rattle.sorted.proofs.Tests.{or-one}
 
 module _ (ws : List Window) (ds : List Document) where
@@ -71,17 +71,6 @@ module _ (ws : List Window) (ds : List Document) where
   pub top-itself : (n : ℕ) (v : WindowNumber) → above ws ds v ≡ topmost → topAbove (suc n) ws ds v ≡ some v
   unfolding topAbove
   top-itself n v h = ap (topAt (topAbove n ws ds) v) h
-
-  -- a reached window has a row
-  pub reached-row : (n : ℕ) (v t : WindowNumber) → reachedFrom n ws ds v ≡ some t → (r : Window) × (windowNumbered ws v ≡ some r)
-  unfolding reachedFrom
-  reached-row zero v t e = never (cc)
-  reached-row (suc n) v t e = go (above ws ds v) refl e
-    where
-      go : (u : Above) → above ws ds v ≡ u → reachedAt (reachedFrom n ws ds) v u ≡ some t → (r : Window) × (windowNumbered ws v ≡ some r)
-      go missing f e = never (cc)
-      go topmost f e = let z = topmost-row v f in (z .0, z .1)
-      go (heldBy d) f e = let z = held-row v d f in (z .0, z .2)
 
   -- UNDER SOME DOCUMENTS.
   -- where the line ends, one step more changes nothing
