@@ -32,7 +32,7 @@ url-in =
     one-fills UrlIn _ _ _ (numeral-yields 0 most16) (λ path p.
     one-fills UrlIn _ _ _ (optional-yields most32) (λ parameters q.
     one-fills UrlIn _ _ _ fragment-in (λ fragment f.
-    end-fills UrlIn _ (record { host = h; path = p; parameters = q; fragment = f })))))))
+    end-fills UrlIn _ (record { host = h; path = p; parameters = q; fragment = f }))))))))
 
 origin-in : Yields OriginIn originOf
 origin-in = inside-yields OriginIn _ (one-fills OriginIn _ _ _ (numeral-yields 1 most16) (λ host h. skip OriginIn _ _ (λ protocol. end-fills OriginIn _ h)))
