@@ -2,3 +2,7 @@
 pub mod Yields
 pub mod Items
 pub mod Ranged
+pub mod Shared
+pub mod Scripts
+pub mod Answers
+pub mod Steps
