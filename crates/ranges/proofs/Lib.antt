@@ -6,3 +6,5 @@ pub mod Shared
 pub mod Scripts
 pub mod Answers
 pub mod Steps
+pub mod Bounded
+pub mod Made
