@@ -11,7 +11,7 @@ use Rattle.tables.specs.Tables.{windows, Tables}
 use Rattle.tables.specs.Labels.{Label}
 use Rattle.shapes.specs.Events.{Message}
 use Rattle.wim.specs.Nouns.{Event, RunScript, Urlbar, Reload, GoForward, GoBack, CloseCorrupt, EncryptedAnswer, PlainAnswer, DnsResolved, Item, Closed}
-use Rattle.wim.specs.Program.{Program, Outcome, refused, made, run}
+use Rattle.wim.specs.Program.{Program, made, run}
 use Rattle.wim.specs.Main.{cookiesIn, program}
 use Rattle.wim.specs.Step.{freshLabels, fits, stepTables, Browser, declined, accepted, closes, concluded, step}
 use Rattle.wim.specs.LocalSteps.{isLocal, stands, hosts}

@@ -1,17 +1,15 @@
 -- HTTP answers and DNS answers are ranged: Algorithm 8, and A9:55 to 74.
 use mathlib.Core.Bool.{Bool, true, false, cond, not, _&&_, _||_}
-use mathlib.Core.List.{List, [], _∷_, map}
+use mathlib.Core.List.{List, [], _∷_}
 use mathlib.Core.Option.{Option, none, some}
-use Prim.Native.Nat.{ℕ, suc}
 use native.Mathlib.Omega.{arith}
 use lib.Dec.{eqb}
-use lib.ListN.{length}
 use Rattle.sorted.specs.Table.{keep, All, put}
 use Rattle.tables.specs.Tables.{documents, cookies, inputs, pendingDNS, pendingRequests, sts, isSecure}
 use Rattle.tables.specs.Labels.{document, key}
 use Rattle.tables.specs.Rows.{sameOrigin, sameHost}
 use Rattle.shapes.specs.Ranges.{ValueIn, AddressIn, FragmentIn, UrlIn, CookieIn, MatchingIn, LocationIn, BodyIn, AnswerIn, DnsAnswerIn, OriginHeaderIn}
-use Rattle.wim.specs.Nouns.{WindowNumber, Address, Protocol, Plain, Secure, Url, Fragment, Absent, Named, Cookie, OriginHeader, Unsent, Null, From, Data, Matching, Reference, Req, Xhr, Seal, Keyless, Keyed, Script, ScriptState, Status, Location, Nowhere, To, Body, Number, Page, Answer, DnsAnswer, Answered, Document, Question, Waiting, NoQuestion, NoRequest, Mismatch}
+use Rattle.wim.specs.Nouns.{WindowNumber, Address, Protocol, Plain, Secure, Url, Fragment, Absent, Named, Cookie, OriginHeader, Unsent, Null, From, Matching, Reference, Req, Xhr, Seal, Keyless, Keyed, Status, Location, Nowhere, To, Body, Number, Page, Answer, DnsAnswer, Answered, Document, Question, Waiting, NoQuestion, NoRequest, Mismatch}
 use Rattle.wim.specs.Walks.{activeAmong}
 use Rattle.wim.specs.Cookies.{badPrefix, addCookies}
 use Rattle.wim.specs.Program.{Program, reached, history, listening, arrived, under}
@@ -134,7 +132,7 @@ ranged-plain a i new c found h = ranged-needs WaitingIn NoRequest found _ h (λ 
 
 -- DNS
 waiting-in : (q : Question) → QuestionIn q → (seal : Seal) → SealIn seal → (address : Address) → AddressIn address → WaitingIn (waitingOf q seal address)
-waiting-in q i seal s address a = record { reference = i .reference; request = i .request; url = i .url; to-host = i .to-host; to-path = i .to-path; seal = s; address = a }
+waiting-in q i seal s address a = record { reference = i .reference; request = i .request; url = i .url; seal = s; address = a }
 
 ranged-out : (p : Protocol) (q : Question) → QuestionIn q → (address : Address) → AddressIn address → Ranged (goOut p q address)
 unfolding goOut

@@ -1,20 +1,21 @@
 -- Every number of an item that was read is in its range: a law for each noun.
-use mathlib.Core.Path.{_≡_, refl, sym, _∙_, ap, subst}
+use mathlib.Core.Path.{_≡_, refl, sym, ap, subst}
 use mathlib.Core.Bool.{Bool, true, false, cond}
-use mathlib.Core.List.{List, [], _∷_}
+use mathlib.Core.List.{List, []}
 use mathlib.Core.Option.{Option, none, some}
-use Prim.Native.Nat.{ℕ, zero, suc, _≤_}
+use Prim.Native.Nat.{ℕ, _≤_}
 use native.Mathlib.Omega.{arith}
-use lib.ListN.{length, take}
+use lib.ListN.{length}
 use Rattle.sorted.specs.Table.{All, fill}
 use Rattle.sorted.proofs.Never.{never}
+use Rattle.sorted.proofs.Count.{take-fill}
 use Rattle.csexp.specs.Term.{Term, Terms, nil, cons}
 use Rattle.csexp.specs.Read.{Got, no, got, read}
 use Rattle.csexp.specs.Decode.{Decoder, and-then}
 use Rattle.csexp.specs.Limits.{itemBytes, itemLevels, wholeOf}
-use Rattle.shapes.specs.Nouns.{WindowNumber, Fresh, Absent, Named, Cookie, SetCookies, Unmatched, By, NewWindow, Existing, Itself, Within, Anyone, Only, Command, Nothing, Back, Forward, Close, Nowhere, Number, Headers, Reply, Event, Reload, GoForward, GoBack, CloseCorrupt, Happening, Item, BadText}
+use Rattle.shapes.specs.Nouns.{WindowNumber, Absent, Named, Cookie, Unmatched, By, NewWindow, Existing, Itself, Within, Anyone, Only, Command, Nothing, Back, Forward, Close, Number, Headers, Reply, Event, Reload, GoForward, GoBack, Happening, Item, BadText}
 use Rattle.shapes.specs.Words.{most16, most32}
-use Rattle.shapes.specs.Items.{fragmentOf, urlOf, originOf, windowOf, nameOf, contentOf, cookieOf, blankCookie, setCookies, cookiesOf, targetOf, holderOf, matchingOf, addresseeOf, hrefOf, iframeOf, formOf, setScriptOf, setScriptStateOf, xhrOf, namingOf, postMessageOf, commandOf, pageOf, bodyOf, headerOf, noHeaders, oneHeaderOf, moreHeaders, headersOf, replyOf, encryptedOf, resolvedOf, messageOf, scriptOf, placeOf, urlbarOf, triggerOf, choicesOf, freshOf, eventOf, triggeredOf, toldOf, itemOf}
+use Rattle.shapes.specs.Items.{fragmentOf, urlOf, originOf, windowOf, nameOf, cookieOf, blankCookie, setCookies, cookiesOf, targetOf, holderOf, matchingOf, addresseeOf, hrefOf, iframeOf, formOf, setScriptOf, setScriptStateOf, xhrOf, namingOf, postMessageOf, commandOf, bodyOf, headerOf, noHeaders, oneHeaderOf, moreHeaders, headersOf, replyOf, messageOf, scriptOf, placeOf, urlbarOf, triggerOf, choicesOf, freshOf, eventOf, itemOf}
 use Rattle.shapes.specs.Texts.{unread, item, shaped, taken, itemIn}
 use Rattle.shapes.specs.Ranges.{Between, NumberIn, NameIn, FragmentIn, UrlIn, OriginIn, CookieIn, SetCookiesIn, TargetIn, HolderIn, MatchingIn, AddresseeIn, CommandIn, LocationIn, BodyIn, AnswerIn, EventIn, FreshIn, ItemIn}
 use Rattle.ranges.proofs.Yields.{Yields, inside-yields, end-fills, one-fills, perhaps-fills, list-fills, either-yields, maps-yields, unless-yields, skip, made-of, means-yields, optionally-yields, numeral-yields, labelled-yields, none-between, also-none, optional-yields}
@@ -53,12 +54,6 @@ cookie-in = inside-yields CookieIn _ (one-fills CookieIn _ _ _ name-in (λ name 
     (one-fills CookieIn _ _ _ (numeral-yields 0 most32) (λ value v.
     skip CookieIn _ _ (λ secure. skip CookieIn _ _ (λ session. skip CookieIn _ _ (λ httponly. end-fills CookieIn _ (record { name = i; value = v })))))))
     (λ cookie c. end-fills CookieIn cookie c)))
-
-pub take-fill : {A : Type 0} (d : A) (n : ℕ) (l : List A) → length l ≤ n → take (length l) (fill d n l) ≡ l
-take-fill d zero [] h = refl
-take-fill d zero (x ∷ l) h = absurd (omega arith)
-take-fill d (suc n) [] h = refl
-take-fill d (suc n) (x ∷ l) h = ap (x ∷_) (take-fill d n l (omega arith))
 
 set-in : (cs : List Cookie) → (length cs ≤ 4) × All CookieIn cs → SetCookiesIn (setCookies cs)
 set-in cs h =

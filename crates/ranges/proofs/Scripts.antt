@@ -8,8 +8,8 @@ use Rattle.sorted.specs.Table.{keep, All}
 use Rattle.sorted.proofs.Member.{all-in, in-all, in-keep}
 use Rattle.tables.specs.Tables.{windows, documents, inputs}
 use Rattle.tables.specs.Labels.{window}
-use Rattle.tables.specs.Rows.{originOf, sameOrigin, withState, withScript, changing}
-use Rattle.shapes.specs.Ranges.{ValueIn, NumberIn, UrlIn, CookieIn, TargetIn, HolderIn, CommandIn, OutputIn, OriginHeaderIn}
+use Rattle.tables.specs.Rows.{originOf, sameOrigin, withState, withScript}
+use Rattle.shapes.specs.Ranges.{ValueIn, UrlIn, CookieIn, TargetIn, CommandIn, OutputIn, OriginHeaderIn}
 use Rattle.wim.specs.Nouns.{WindowNumber, Url, Parameters, Protocol, Cookie, Method, Data, OriginHeader, Unsent, From, Policy, Reference, Req, Xhr, Labelled, Target, NewWindow, Existing, Holder, Itself, Within, Addressee, Command, Nothing, Href, Iframe, Form, SetScript, SetScriptState, XmlHttpRequest, Back, Forward, Close, PostMessage, Output, News, Posted, Document, HostCookie, NoWindow, NoDocument}
 use Rattle.wim.specs.Cookies.{allowed, named, latest, guarded, cookieMerge}
 use Rattle.wim.specs.Program.{Program, reached, active, history, navigated, ofOrigin, arrived, under, cookiesOf}

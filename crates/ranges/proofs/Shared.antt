@@ -1,7 +1,7 @@
 -- The programs that others call are ranged: HTTP_SEND, CANCELNAV, NAVBACK, NAVFORWARD, what every script stores, what goes with a document.
 use mathlib.Core.Path.{_≡_, refl, sym, ap, subst}
 use mathlib.Core.Logic.{inl, inr}
-use mathlib.Core.Bool.{Bool, true, false, cond, not, _&&_}
+use mathlib.Core.Bool.{Bool, true, false, cond, _&&_}
 use mathlib.Core.List.{List, [], _∷_, map}
 use mathlib.Core.Option.{Option, none, some}
 use Prim.Native.Nat.{ℕ, _≤_}
@@ -11,14 +11,14 @@ use lib.Dec.{eqb}
 use lib.ListN.{length, take, length-map}
 use Rattle.sorted.specs.Table.{keep, In, All, put, drop}
 use Rattle.sorted.proofs.Member.{in-keep, length-keep}
+use Rattle.sorted.proofs.Count.{take-fill}
 use Rattle.tables.specs.Tables.{windows, documents, cookies, localStorage, sessionStorage, inputs, pendingDNS, pendingRequests, isSecure, Tables}
 use Rattle.tables.specs.Rows.{sameWindow, sameDocument, sameHost, goesOver, pairOf, jar as cookieHeader, originOf, withActive, withState, withScript, changing, settingActive}
-use Rattle.shapes.specs.Words.{most32}
-use Rattle.shapes.specs.Ranges.{Between, HostIn, ValueIn, NumberIn, UrlIn, OriginIn, CookieIn, PairIn, OutputIn, OriginHeaderIn, ReferrerIn, blankPair, jar, RequestIn}
+use Rattle.shapes.specs.Ranges.{HostIn, ValueIn, NumberIn, UrlIn, OriginIn, CookieIn, PairIn, OutputIn, OriginHeaderIn, ReferrerIn, blankPair, jar, RequestIn}
 use Rattle.wim.specs.Nouns.{WindowNumber, DocumentNumber, Host, Url, Origin, Cookie, Pair, Cancelled, Bare, Sending, Referrer, Unknown, Known, Policy, Unset, NoReferrer, OriginOnly, Script, ScriptState, Stored, Output, Document, HostCookie, Stopped}
 use Rattle.wim.specs.Walks.{Removal, activeAmong}
 use Rattle.wim.specs.Cookies.{storeAll}
-use Rattle.wim.specs.Program.{strict, cookiesFor, observed, Program, done, history}
+use Rattle.wim.specs.Program.{strict, observed, Program, done, history}
 use Rattle.wim.specs.Sending.{cancelNav, secured, referer, requestOf, questionOf, send}
 use Rattle.wim.specs.History.{documentBefore, documentAfter, neighbour, placeOf, moved, navBack, navForward}
 use Rattle.wim.specs.Script.{storeLocal, storeSession, store, remove}
@@ -26,7 +26,7 @@ use Rattle.wim.specs.Ranges.{DocumentIn, HostCookieIn, StoredIn, ReferenceIn, Q
 use Rattle.wim.specs.Invariant.{InRange}
 use Rattle.invariant.proofs.Rooted.Walk.{Ends}
 use Rattle.ranges.proofs.Yields.{none-between}
-use Rattle.ranges.proofs.Items.{WindowNumberIn, take-fill}
+use Rattle.ranges.proofs.Items.{WindowNumberIn}
 use Rattle.ranges.proofs.Ranged.{PutsIn, edited-in, After, Brought, Ranged, ranged-done, ranged-refuse, ranged-ask, ranged-edit, ranged-revise}
 
 -- HTTP_SEND.
@@ -74,10 +74,8 @@ question-in o i ps few each q n j k true = record {
   reference = i .reference;
   request = request-in o i ps few each q j;
   url = record { host = i .url .host; path = i .url .path; parameters = i .url .parameters; fragment = i .url .fragment };
-  to-host = refl;
-  to-path = refl;
 }
-question-in o i ps few each q n j k false = record { number = k; reference = i .reference; request = request-in o i ps few each q j; url = i .url; to-host = refl; to-path = refl }
+question-in o i ps few each q n j k false = record { number = k; reference = i .reference; request = request-in o i ps few each q j; url = i .url }
 
 -- the cookies chosen are no more than the table has rows for, as it stands at the end
 pub ranged-send : (o : Sending) → SendingIn o → Ranged (send o)

@@ -37,7 +37,7 @@ pub record Rooted (b : Tables) : Type 0 where
   pub one-active : (d : Document) → In d (b documents) → (e : Document) × In e (b documents) × (e .window ≡ d .window) × (e .active ≡ true)
   pub only-active : (d e : Document) → In d (b documents) → In e (b documents) → d .window ≡ e .window → d .active ≡ true → e .active ≡ true → d ≡ e
 
--- Every number of every row is in its range.
+-- Every number of every row is in its range. This and no more: what a row says twice, a request's host beside its address, is not compared.
 pub record InRange (b : Tables) : Type 0 where
   pub rows : (t : Table) (r : Row t) → In r (b t) → RowIn t r
 

@@ -1,5 +1,4 @@
--- Ranges: the numbers of the rows of the nine tables (01 "Numbers, names, sizes"). Whatever a row of the table holds can be tested by itself.
-use mathlib.Core.Path.{_≡_}
+-- Ranges: the numbers of the rows of the nine tables (01 "Numbers, names, sizes"). Each row is tested by itself.
 use Prim.Native.Nat.{_≤_}
 use Rattle.tables.specs.Tables.{Table, windows, documents, cookies, localStorage, sessionStorage, inputs, pendingDNS, pendingRequests, sts, Row}
 use Rattle.shapes.specs.Words.{most32}
@@ -19,7 +18,7 @@ pub record WindowIn (r : Window) : Type 0 where
   pub parent : ParentIn (r .parent)
   pub opener : OpenerIn (r .opener)
 
--- "Both count from 1": places here, arrivals below. That neither exceeds the rows of its table is told by `Rooted`.
+-- "Both count from 1": places here, arrivals below. Neither exceeds the rows of its table, since they have no gaps (`Rooted`).
 pub record DocumentIn (d : Document) : Type 0 where
   pub window : NumberIn (d .window .0)
   pub place : 1 ≤ d .place
@@ -63,21 +62,16 @@ abbrev pub SealIn : Seal → Type 0
 SealIn Keyless = Unit {0}
 SealIn (Keyed k) = NumberIn (k .0)
 
--- a request goes to the host and the path of its address
 pub record QuestionIn (q : Question) : Type 0 where
   pub number : NumberIn (q .number .0)
   pub reference : ReferenceIn (q .reference)
   pub request : RequestIn (q .request)
   pub url : UrlIn (q .url)
-  pub to-host : q .request .host ≡ q .url .host
-  pub to-path : q .request .path ≡ q .url .path
 
 pub record WaitingIn (w : Waiting) : Type 0 where
   pub reference : ReferenceIn (w .reference)
   pub request : RequestIn (w .request)
   pub url : UrlIn (w .url)
-  pub to-host : w .request .host ≡ w .url .host
-  pub to-path : w .request .path ≡ w .url .path
   pub seal : SealIn (w .seal)
   pub address : AddressIn (w .address)
 
