@@ -7,7 +7,7 @@ use lib.ListN.{length, length-take}
 use Rattle.shapes.specs.Nouns.{Item}
 use Rattle.shapes.specs.Texts.{item, itemIn}
 use Rattle.wim.specs.Main.{cookiesIn}
-use Rattle.ranges.proofs.Items.{read-in-range}
+use Rattle.shapes.proofs.Ranges.{read-in-range}
 
 pub few-read : (s : List ℕ) (i : Item) → itemIn s ≡ item i → length (cookiesIn (i .cookies)) ≤ 4
 few-read s i e =

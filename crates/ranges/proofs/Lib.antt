@@ -1,6 +1,4 @@
 -- Every number of a browser that items which were read have made is in its range; so what goes out is read back. In reading order.
-pub mod Yields
-pub mod Items
 pub mod Ranged
 pub mod Shared
 pub mod Scripts

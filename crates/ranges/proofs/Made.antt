@@ -15,7 +15,7 @@ use Rattle.wim.specs.Invariant.{InRange, Sound, MadeTables, untouched, stepped,
 use Rattle.invariant.proofs.Opened.{opened}
 use Rattle.invariant.proofs.Numbered.Steps.{made-numbered}
 use Rattle.invariant.proofs.Rooted.Made.{made-rooted}
-use Rattle.ranges.proofs.Items.{read-in-range}
+use Rattle.shapes.proofs.Ranges.{read-in-range}
 use Rattle.ranges.proofs.Steps.{in-range-empty, in-range-step}
 
 made-tables : {b : Browser} → MadeOfTexts b → MadeTables (b .tables)

@@ -25,7 +25,7 @@ use Rattle.wim.specs.Program.{Query, reached, topLevel, active, history, naviga
 use Rattle.wim.specs.Ranges.{DocumentIn, QuestionIn, WaitingIn, RowIn}
 use Rattle.wim.specs.Invariant.{InRange}
 use Rattle.invariant.proofs.Rooted.Walk.{Ends}
-use Rattle.ranges.proofs.Items.{WindowNumberIn}
+use Rattle.shapes.proofs.Ranges.{WindowNumberIn}
 
 -- what is there, if anything is, is such
 abbrev pub Held : {A : Type 0} → (A → Type 0) → Option A → Type 0

@@ -13,45 +13,45 @@ use Rattle.csexp.specs.Term.{Term, Terms, nil, cons}
 use Rattle.csexp.specs.Read.{Got, no, got, read}
 use Rattle.csexp.specs.Decode.{Decoder, and-then}
 use Rattle.csexp.specs.Limits.{itemBytes, itemLevels, wholeOf}
 use Rattle.shapes.specs.Nouns.{WindowNumber, Absent, Named, Cookie, Unmatched, By, NewWindow, Existing, Itself, Within, Anyone, Only, Command, Nothing, Back, Forward, Close, Number, Headers, Reply, Event, Reload, GoForward, GoBack, Happening, Item, BadText}
 use Rattle.shapes.specs.Words.{most16, most32}
 use Rattle.shapes.specs.Items.{fragmentOf, urlOf, originOf, windowOf, nameOf, cookieOf, blankCookie, setCookies, cookiesOf, targetOf, holderOf, matchingOf, addresseeOf, hrefOf, iframeOf, formOf, setScriptOf, setScriptStateOf, xhrOf, namingOf, postMessageOf, commandOf, bodyOf, headerOf, noHeaders, oneHeaderOf, moreHeaders, headersOf, replyOf, messageOf, scriptOf, placeOf, urlbarOf, triggerOf, choicesOf, freshOf, eventOf, itemOf}
 use Rattle.shapes.specs.Texts.{unread, item, shaped, taken, itemIn}
 use Rattle.shapes.specs.Ranges.{Between, NumberIn, NameIn, FragmentIn, UrlIn, OriginIn, CookieIn, SetCookiesIn, TargetIn, HolderIn, MatchingIn, AddresseeIn, CommandIn, LocationIn, BodyIn, AnswerIn, EventIn, FreshIn, ItemIn}
-use Rattle.ranges.proofs.Yields.{Yields, inside-yields, end-fills, one-fills, perhaps-fills, list-fills, either-yields, maps-yields, unless-yields, skip, made-of, means-yields, optionally-yields, numeral-yields, labelled-yields, none-between, also-none, optional-yields}
+use Rattle.shapes.proofs.Yields.{Yields, inside-yields, end-fills, one-fills, perhaps-fills, list-fills, either-yields, maps-yields, unless-yields, skip, made-of, means-yields, optionally-yields, numeral-yields, labelled-yields, none-between, also-none, optional-yields}
 
 -- ADDRESSES.
 fragment-in : Yields FragmentIn fragmentOf
-fragment-in = optionally-yields FragmentIn (Between 1 most32) Absent Named _ tt (numeral-yields 1 most32) (λ n i. i)
+fragment-in = optionally-yields FragmentIn (Between 1 most32) Absent Named _ tt (numeral-yields _ _) (λ n i. i)
 
 url-in : Yields UrlIn urlOf
 url-in =
     inside-yields UrlIn _
     (skip UrlIn _ _ (λ _.
     skip UrlIn _ _ (λ protocol.
-    one-fills UrlIn _ _ _ (numeral-yields 1 most16) (λ host h.
-    one-fills UrlIn _ _ _ (numeral-yields 0 most16) (λ path p.
-    one-fills UrlIn _ _ _ (optional-yields most32) (λ parameters q.
+    one-fills UrlIn _ _ _ (numeral-yields _ _) (λ host h.
+    one-fills UrlIn _ _ _ (numeral-yields _ _) (λ path p.
+    one-fills UrlIn _ _ _ (optional-yields _) (λ parameters q.
     one-fills UrlIn _ _ _ fragment-in (λ fragment f.
     end-fills UrlIn _ (record { host = h; path = p; parameters = q; fragment = f }))))))))
 
 origin-in : Yields OriginIn originOf
-origin-in = inside-yields OriginIn _ (one-fills OriginIn _ _ _ (numeral-yields 1 most16) (λ host h. skip OriginIn _ _ (λ protocol. end-fills OriginIn _ h)))
+origin-in = inside-yields OriginIn _ (one-fills OriginIn _ _ _ (numeral-yields _ _) (λ host h. skip OriginIn _ _ (λ protocol. end-fills OriginIn _ h)))
 
 abbrev pub WindowNumberIn : WindowNumber → Type 0
 WindowNumberIn w = NumberIn (w .0)
 
 window-in : Yields WindowNumberIn windowOf
-window-in = maps-yields WindowNumberIn _ _ _ (labelled-yields _ 1 most32) (λ n i. i)
+window-in = maps-yields WindowNumberIn _ _ _ (labelled-yields _ _ _) (λ n i. i)
 
 -- COOKIES.
 name-in : Yields NameIn nameOf
-name-in = either-yields NameIn _ _ (maps-yields NameIn _ _ _ (numeral-yields 0 most16) (λ n i. i)) (maps-yields NameIn _ _ _ (labelled-yields _ 0 most16) (λ n i. i))
+name-in = either-yields NameIn _ _ (maps-yields NameIn _ _ _ (numeral-yields _ _) (λ n i. i)) (maps-yields NameIn _ _ _ (labelled-yields _ _ _) (λ n i. i))
 
 cookie-in : Yields CookieIn cookieOf
 cookie-in = inside-yields CookieIn _ (one-fills CookieIn _ _ _ name-in (λ name i. one-fills CookieIn CookieIn _ _
     (inside-yields CookieIn _
-    (one-fills CookieIn _ _ _ (numeral-yields 0 most32) (λ value v.
+    (one-fills CookieIn _ _ _ (numeral-yields _ _) (λ value v.
     skip CookieIn _ _ (λ secure. skip CookieIn _ _ (λ session. skip CookieIn _ _ (λ httponly. end-fills CookieIn _ (record { name = i; value = v })))))))
     (λ cookie c. end-fills CookieIn cookie c)))
 
@@ -64,7 +64,7 @@ none-in : SetCookiesIn (setCookies [])
 none-in = set-in [] (omega arith, tt)
 
 cookies-in : Yields SetCookiesIn cookiesOf
-cookies-in = maps-yields SetCookiesIn _ setCookies _ (inside-yields _ _ (list-fills CookieIn 4 cookieOf cookie-in)) set-in
+cookies-in = maps-yields SetCookiesIn _ setCookies _ (inside-yields _ _ (list-fills CookieIn _ cookieOf cookie-in)) set-in
 
 -- COMMANDS.
 target-in : Yields TargetIn targetOf
@@ -74,7 +74,7 @@ holder-in : Yields HolderIn holderOf
 holder-in = either-yields HolderIn _ _ (means-yields HolderIn _ Itself tt) (maps-yields HolderIn _ Within _ window-in (λ w i. i))
 
 matching-in : Yields MatchingIn matchingOf
-matching-in = optionally-yields MatchingIn _ Unmatched By _ tt (numeral-yields 0 most32) (λ n i. i)
+matching-in = optionally-yields MatchingIn _ Unmatched By _ tt (numeral-yields _ _) (λ n i. i)
 
 addressee-in : Yields AddresseeIn addresseeOf
 addressee-in = optionally-yields AddresseeIn _ Anyone Only _ tt origin-in (λ o i. i)
@@ -88,24 +88,24 @@ iframe-in = inside-yields CommandIn _ (skip CommandIn _ _ (λ _. one-fills Comma
 
 form-in : Yields CommandIn formOf
 form-in = inside-yields CommandIn _ (skip CommandIn _ _ (λ _. one-fills CommandIn _ _ _ url-in (λ url u. skip CommandIn _ _ (λ method.
-    one-fills CommandIn _ _ _ (optional-yields most32) (λ data′ d. one-fills CommandIn _ _ _ target-in (λ target t. end-fills CommandIn _ (u, d, t)))))))
+    one-fills CommandIn _ _ _ (optional-yields _) (λ data′ d. one-fills CommandIn _ _ _ target-in (λ target t. end-fills CommandIn _ (u, d, t)))))))
 
 set-script-in : Yields CommandIn setScriptOf
-set-script-in = inside-yields CommandIn _ (skip CommandIn _ _ (λ _. one-fills CommandIn _ _ _ window-in (λ w i. one-fills CommandIn _ _ _ (numeral-yields 0 most32) (λ n s. end-fills CommandIn _ (i, s)))))
+set-script-in = inside-yields CommandIn _ (skip CommandIn _ _ (λ _. one-fills CommandIn _ _ _ window-in (λ w i. one-fills CommandIn _ _ _ (numeral-yields _ _) (λ n s. end-fills CommandIn _ (i, s)))))
 
 set-script-state-in : Yields CommandIn setScriptStateOf
-set-script-state-in = inside-yields CommandIn _ (skip CommandIn _ _ (λ _. one-fills CommandIn _ _ _ window-in (λ w i. one-fills CommandIn _ _ _ (numeral-yields 0 most32) (λ n s. end-fills CommandIn _ (i, s)))))
+set-script-state-in = inside-yields CommandIn _ (skip CommandIn _ _ (λ _. one-fills CommandIn _ _ _ window-in (λ w i. one-fills CommandIn _ _ _ (numeral-yields _ _) (λ n s. end-fills CommandIn _ (i, s)))))
 
 xhr-in : Yields CommandIn xhrOf
 xhr-in = inside-yields CommandIn _ (skip CommandIn _ _ (λ _. one-fills CommandIn _ _ _ url-in (λ url u. skip CommandIn _ _ (λ method.
-    one-fills CommandIn _ _ _ (optional-yields most32) (λ data′ d. one-fills CommandIn _ _ _ matching-in (λ matching m. end-fills CommandIn _ (u, d, m)))))))
+    one-fills CommandIn _ _ _ (optional-yields _) (λ data′ d. one-fills CommandIn _ _ _ matching-in (λ matching m. end-fills CommandIn _ (u, d, m)))))))
 
 naming-in : (w : List ℕ) (command : WindowNumber → Command) → ((v : WindowNumber) → WindowNumberIn v → CommandIn (command v)) → Yields CommandIn (namingOf w command)
 naming-in w command h = inside-yields CommandIn _ (skip CommandIn _ _ (λ _. one-fills CommandIn _ _ _ window-in (λ v i. end-fills CommandIn _ (h v i))))
 
 post-message-in : Yields CommandIn postMessageOf
 post-message-in = inside-yields CommandIn _ (skip CommandIn _ _ (λ _. one-fills CommandIn _ _ _ window-in (λ w i.
-    one-fills CommandIn _ _ _ (numeral-yields 0 most32) (λ message m. one-fills CommandIn _ _ _ addressee-in (λ to a. end-fills CommandIn _ (i, m, a))))))
+    one-fills CommandIn _ _ _ (numeral-yields _ _) (λ message m. one-fills CommandIn _ _ _ addressee-in (λ to a. end-fills CommandIn _ (i, m, a))))))
 
 command-in : Yields CommandIn commandOf
 command-in =
@@ -124,8 +124,8 @@ command-in =
 -- ANSWERS.
 body-in : Yields BodyIn bodyOf
 body-in =
-    either-yields BodyIn _ _ (maps-yields BodyIn _ Number _ (numeral-yields 0 most32) (λ n i. i))
-    (inside-yields BodyIn _ (one-fills BodyIn _ _ _ (numeral-yields 0 most32) (λ script s. one-fills BodyIn _ _ _ (numeral-yields 0 most32) (λ state t. end-fills BodyIn _ (s, t)))))
+    either-yields BodyIn _ _ (maps-yields BodyIn _ Number _ (numeral-yields _ _) (λ n i. i))
+    (inside-yields BodyIn _ (one-fills BodyIn _ _ _ (numeral-yields _ _) (λ script s. one-fills BodyIn _ _ _ (numeral-yields _ _) (λ state t. end-fills BodyIn _ (s, t)))))
 
 header-yields : {A : Type 0} (P : A → Type 0) (w : List ℕ) (d : Decoder A) → Yields P d → Yields P (headerOf w d)
 header-yields P w d y = inside-yields P _ (skip P _ _ (λ x. one-fills P P d _ y (λ v p. end-fills P v p)))
@@ -161,8 +161,8 @@ reply-in : Yields ReplyIn replyOf
 reply-in =
     inside-yields ReplyIn _
     (skip ReplyIn _ _ (λ _.
-    one-fills ReplyIn _ _ _ (labelled-yields _ 1 most32) (λ n i.
-    one-fills ReplyIn _ _ _ (numeral-yields 100 505) (λ status s.
+    one-fills ReplyIn _ _ _ (labelled-yields _ _ _) (λ n i.
+    one-fills ReplyIn _ _ _ (numeral-yields _ _) (λ status s.
     one-fills ReplyIn _ _ _ headers-in (λ headers h.
     one-fills ReplyIn _ _ _ body-in (λ body b.
     end-fills ReplyIn _ (record { answer = record { number = i; status = s; location = h .location; body = b }; cookies = h .cookies })))))))
@@ -177,10 +177,10 @@ message-in =
     either-yields HappeningIn _ _ (maps-yields HappeningIn _ _ _ reply-in (λ r i. record { event = i .answer; cookies = i .cookies }))
     (either-yields HappeningIn _ _
     (inside-yields HappeningIn _ (skip HappeningIn _ _ (λ _. one-fills HappeningIn _ _ _ reply-in (λ r i.
-    one-fills HappeningIn _ _ _ (labelled-yields _ 1 most32) (λ k n. end-fills HappeningIn _ (record { event = (n, i .answer); cookies = i .cookies }))))))
+    one-fills HappeningIn _ _ _ (labelled-yields _ _ _) (λ k n. end-fills HappeningIn _ (record { event = (n, i .answer); cookies = i .cookies }))))))
     (either-yields HappeningIn _ _
-    (inside-yields HappeningIn _ (skip HappeningIn _ _ (λ _. one-fills HappeningIn _ _ _ (numeral-yields 1 most16) (λ host h. one-fills HappeningIn _ _ _ (numeral-yields 1 most16) (λ address a.
-    one-fills HappeningIn _ _ _ (labelled-yields _ 1 most32) (λ n i. end-fills HappeningIn _ (record { event = record { host = h; address = a; number = i }; cookies = none-in })))))))
+    (inside-yields HappeningIn _ (skip HappeningIn _ _ (λ _. one-fills HappeningIn _ _ _ (numeral-yields _ _) (λ host h. one-fills HappeningIn _ _ _ (numeral-yields _ _) (λ address a.
+    one-fills HappeningIn _ _ _ (labelled-yields _ _ _) (λ n i. end-fills HappeningIn _ (record { event = record { host = h; address = a; number = i }; cookies = none-in })))))))
     (means-yields HappeningIn _ _ (record { event = tt; cookies = none-in }))))
 
 script-in : Yields HappeningIn scriptOf
@@ -188,10 +188,10 @@ script-in =
     inside-yields HappeningIn _
     (skip HappeningIn _ _ (λ _.
     one-fills HappeningIn _ _ _ window-in (λ window w.
-    one-fills HappeningIn _ _ _ (numeral-yields 0 most32) (λ state s.
+    one-fills HappeningIn _ _ _ (numeral-yields _ _) (λ state s.
     one-fills HappeningIn _ _ _ cookies-in (λ cookies c.
-    one-fills HappeningIn _ _ _ (optional-yields most32) (λ local l.
-    one-fills HappeningIn _ _ _ (optional-yields most32) (λ session v.
+    one-fills HappeningIn _ _ _ (optional-yields _) (λ local l.
+    one-fills HappeningIn _ _ _ (optional-yields _) (λ session v.
     one-fills HappeningIn _ _ _ command-in (λ command k.
     end-fills HappeningIn _ (record { event = (w, record { state = s; local = l; session = v; command = k }); cookies = c })))))))))
 
@@ -204,10 +204,10 @@ urlbar-in =
     (skip HappeningIn _ _ (λ _.
     one-fills HappeningIn _ _ _ place-in (λ target t.
     skip HappeningIn _ _ (λ protocol.
-    one-fills HappeningIn _ _ _ (numeral-yields 1 most16) (λ host h.
-    one-fills HappeningIn _ _ _ (numeral-yields 0 most16) (λ path p.
+    one-fills HappeningIn _ _ _ (numeral-yields _ _) (λ host h.
+    one-fills HappeningIn _ _ _ (numeral-yields _ _) (λ path p.
     one-fills HappeningIn _ _ _ fragment-in (λ fragment f.
-    one-fills HappeningIn _ _ _ (optional-yields most32) (λ parameters q.
+    one-fills HappeningIn _ _ _ (optional-yields _) (λ parameters q.
     end-fills HappeningIn _ (record { event = (t, record { host = h; path = p; parameters = q; fragment = f }); cookies = none-in })))))))))
 
 trigger-in : (w : List ℕ) (event : WindowNumber → Event) → ((v : WindowNumber) → WindowNumberIn v → EventIn (event v)) → Yields HappeningIn (triggerOf w event)
@@ -225,11 +225,11 @@ choices-in =
 fresh-in : Yields FreshIn freshOf
 fresh-in =
     inside-yields FreshIn _
-    (perhaps-fills FreshIn _ (Between 0 most32) 0 (λ n. n) _ _ (none-between most32) (labelled-yields _ 1 most32) (also-none most32) (λ window w.
-    perhaps-fills FreshIn _ (Between 0 most32) 0 (λ n. n) _ _ (none-between most32) (labelled-yields _ 1 most32) (also-none most32) (λ request r.
-    perhaps-fills FreshIn _ (Between 0 most32) 0 (λ n. n) _ _ (none-between most32) (labelled-yields _ 1 most32) (also-none most32) (λ dns d.
-    perhaps-fills FreshIn _ (Between 0 most32) 0 (λ n. n) _ _ (none-between most32) (labelled-yields _ 1 most32) (also-none most32) (λ key k.
-    perhaps-fills FreshIn _ (Between 0 most32) 0 (λ n. n) _ _ (none-between most32) (labelled-yields _ 1 most32) (also-none most32) (λ document o.
+    (perhaps-fills FreshIn _ (Between 0 most32) 0 (λ n. n) _ _ (none-between most32) (labelled-yields _ _ _) (also-none most32) (λ window w.
+    perhaps-fills FreshIn _ (Between 0 most32) 0 (λ n. n) _ _ (none-between most32) (labelled-yields _ _ _) (also-none most32) (λ request r.
+    perhaps-fills FreshIn _ (Between 0 most32) 0 (λ n. n) _ _ (none-between most32) (labelled-yields _ _ _) (also-none most32) (λ dns d.
+    perhaps-fills FreshIn _ (Between 0 most32) 0 (λ n. n) _ _ (none-between most32) (labelled-yields _ _ _) (also-none most32) (λ key k.
+    perhaps-fills FreshIn _ (Between 0 most32) 0 (λ n. n) _ _ (none-between most32) (labelled-yields _ _ _) (also-none most32) (λ document o.
     end-fills FreshIn _ (record { window = w; request = r; dns = d; key = k; document = o })))))))
 
 event-yields : {A : Type 0} (P : A → Type 0) (d : Decoder A) → Yields P d → Yields P (eventOf d)
