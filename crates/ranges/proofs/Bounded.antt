@@ -50,26 +50,12 @@ module _ {A : Type 0} (key : A → ℕ × ℕ) (l : List A) (s : Sorted key (lex
 module _ (b : Tables) (N : Numbered b) (R : Rooted b) where
   pub places-bounded : (d : Document) → In d (b documents) → d .place ≤ cap documents
   places-bounded d i =
-      let few = bounded (keyOf documents) (b documents) (N .sorted documents) follows d i in
+      let few = bounded (keyOf documents) (b documents) (N .sorted documents) (λ x j. elim (R .places x j) [ inl p ↦ inl p | inr e ↦ inr (e .0, e .1, ap (λ (w : WindowNumber). w .0) (e .2), e .3) ]) d i in
       let size = N .sizes documents in
       omega arith
-    where
-      follows : (x : Document) → In x (b documents) → Follows (keyOf documents) (b documents) (N .sorted documents) x
-      follows x j = go (R .places x j)
-        where
-          go : (x .place ≡ 1) ⊎ ((e : Document) × In e (b documents) × (e .window ≡ x .window) × (suc (e .place) ≡ x .place)) → Follows (keyOf documents) (b documents) (N .sorted documents) x
-          go (inl p) = inl p
-          go (inr e) = inr (e .0, e .1, ap (λ (w : WindowNumber). w .0) (e .2), e .3)
 
   pub arrivals-bounded : (x : Input) → In x (b inputs) → x .arrival ≤ cap inputs
   arrivals-bounded x i =
-      let few = bounded (keyOf inputs) (b inputs) (N .sorted inputs) follows x i in
+      let few = bounded (keyOf inputs) (b inputs) (N .sorted inputs) (λ y j. elim (R .arrivals y j) [ inl p ↦ inl p | inr z ↦ inr (z .0, z .1, ap (λ (n : DocumentNumber). n .0) (z .2), z .3) ]) x i in
       let size = N .sizes inputs in
       omega arith
-    where
-      follows : (y : Input) → In y (b inputs) → Follows (keyOf inputs) (b inputs) (N .sorted inputs) y
-      follows y j = go (R .arrivals y j)
-        where
-          go : (y .arrival ≡ 1) ⊎ ((z : Input) × In z (b inputs) × (z .document ≡ y .document) × (suc (z .arrival) ≡ y .arrival)) → Follows (keyOf inputs) (b inputs) (N .sorted inputs) y
-          go (inl p) = inl p
-          go (inr z) = inr (z .0, z .1, ap (λ (n : DocumentNumber). n .0) (z .2), z .3)

@@ -6,3 +6,4 @@ pub mod Answers
 pub mod Steps
 pub mod Bounded
 pub mod Made
+pub mod OnTexts

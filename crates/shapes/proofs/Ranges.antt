@@ -11,14 +11,14 @@ use Rattle.sorted.proofs.Never.{never}
 use Rattle.sorted.proofs.Count.{take-fill}
 use Rattle.csexp.specs.Term.{Term, Terms, nil, cons}
 use Rattle.csexp.specs.Read.{Got, no, got, read}
-use Rattle.csexp.specs.Decode.{Decoder, and-then}
+use Rattle.csexp.specs.Decode.{Decoder, Fields, and-then, inside, one, end, perhaps, either, maps, word, means, numeral, labelledOf}
 use Rattle.csexp.specs.Limits.{itemBytes, itemLevels, wholeOf}
-use Rattle.shapes.specs.Nouns.{WindowNumber, Absent, Named, Cookie, Unmatched, By, NewWindow, Existing, Itself, Within, Anyone, Only, Command, Nothing, Back, Forward, Close, Number, Headers, Reply, Event, Reload, GoForward, GoBack, Happening, Item, BadText}
-use Rattle.shapes.specs.Words.{most16, most32}
-use Rattle.shapes.specs.Items.{fragmentOf, urlOf, originOf, windowOf, nameOf, cookieOf, blankCookie, setCookies, cookiesOf, targetOf, holderOf, matchingOf, addresseeOf, hrefOf, iframeOf, formOf, setScriptOf, setScriptStateOf, xhrOf, namingOf, postMessageOf, commandOf, bodyOf, headerOf, noHeaders, oneHeaderOf, moreHeaders, headersOf, replyOf, messageOf, scriptOf, placeOf, urlbarOf, triggerOf, choicesOf, freshOf, eventOf, itemOf}
+use Rattle.shapes.specs.Nouns.{WindowNumber, Fresh, Absent, Named, Cookie, Unmatched, By, NewWindow, Existing, Itself, Within, Anyone, Only, Command, Nothing, Back, Forward, Close, Number, Headers, Reply, Event, Reload, GoForward, GoBack, Happening, Item, BadText}
+use Rattle.shapes.specs.Words.{most32}
+use Rattle.shapes.specs.Items.{fragmentOf, urlOf, originOf, windowOf, nameOf, cookieOf, blankCookie, setCookies, cookiesOf, holderOf, matchingOf, addresseeOf, hrefOf, iframeOf, formOf, xhrOf, namingOf, postMessageOf, commandOf, bodyOf, headerOf, noHeaders, oneHeaderOf, moreHeaders, headersOf, replyOf, messageOf, scriptOf, urlbarOf, triggerOf, choicesOf, freshOf, eventOf, itemOf}
 use Rattle.shapes.specs.Texts.{unread, item, shaped, taken, itemIn}
-use Rattle.shapes.specs.Ranges.{Between, NumberIn, NameIn, FragmentIn, UrlIn, OriginIn, CookieIn, SetCookiesIn, TargetIn, HolderIn, MatchingIn, AddresseeIn, CommandIn, LocationIn, BodyIn, AnswerIn, EventIn, FreshIn, ItemIn}
-use Rattle.shapes.proofs.Yields.{Yields, inside-yields, end-fills, one-fills, perhaps-fills, list-fills, either-yields, maps-yields, unless-yields, skip, made-of, means-yields, optionally-yields, numeral-yields, labelled-yields, none-between, also-none, optional-yields}
+use Rattle.shapes.specs.Ranges.{Between, ValueIn, NumberIn, NameIn, FragmentIn, UrlIn, OriginIn, CookieIn, SetCookiesIn, TargetIn, HolderIn, MatchingIn, AddresseeIn, CommandIn, LocationIn, BodyIn, AnswerIn, EventIn, FreshIn, ItemIn}
+use Rattle.shapes.proofs.Yields.{Yields, Fills, inside-yields, end-fills, one-fills, perhaps-fills, list-fills, either-yields, maps-yields, unless-yields, skip, made-of, means-yields, optionally-yields, numeral-yields, labelled-yields, none-between, also-none, optional-yields}
 
 -- ADDRESSES.
 fragment-in : Yields FragmentIn fragmentOf
@@ -67,8 +67,9 @@ cookies-in : Yields SetCookiesIn cookiesOf
 cookies-in = maps-yields SetCookiesIn _ setCookies _ (inside-yields _ _ (list-fills CookieIn _ cookieOf cookie-in)) set-in
 
 -- COMMANDS.
-target-in : Yields TargetIn targetOf
-target-in = either-yields TargetIn _ _ (means-yields TargetIn _ NewWindow tt) (maps-yields TargetIn _ Existing _ window-in (λ w i. i))
+-- a word for a new window, or a labelled window
+target-in : (w : List ℕ) → Yields TargetIn (either (means w NewWindow) (maps Existing windowOf))
+target-in w = either-yields TargetIn _ _ (means-yields TargetIn _ NewWindow tt) (maps-yields TargetIn _ Existing _ window-in (λ v i. i))
 
 holder-in : Yields HolderIn holderOf
 holder-in = either-yields HolderIn _ _ (means-yields HolderIn _ Itself tt) (maps-yields HolderIn _ Within _ window-in (λ w i. i))
@@ -80,7 +81,7 @@ addressee-in : Yields AddresseeIn addresseeOf
 addressee-in = optionally-yields AddresseeIn _ Anyone Only _ tt origin-in (λ o i. i)
 
 href-in : Yields CommandIn hrefOf
-href-in = inside-yields CommandIn _ (skip CommandIn _ _ (λ _. one-fills CommandIn _ _ _ url-in (λ url u. one-fills CommandIn _ _ _ target-in (λ target t.
+href-in = inside-yields CommandIn _ (skip CommandIn _ _ (λ _. one-fills CommandIn _ _ _ url-in (λ url u. one-fills CommandIn _ _ _ (target-in _) (λ target t.
     skip CommandIn _ _ (λ noreferrer. end-fills CommandIn _ (u, t))))))
 
 iframe-in : Yields CommandIn iframeOf
@@ -88,13 +89,7 @@ iframe-in = inside-yields CommandIn _ (skip CommandIn _ _ (λ _. one-fills Comma
 
 form-in : Yields CommandIn formOf
 form-in = inside-yields CommandIn _ (skip CommandIn _ _ (λ _. one-fills CommandIn _ _ _ url-in (λ url u. skip CommandIn _ _ (λ method.
-    one-fills CommandIn _ _ _ (optional-yields _) (λ data′ d. one-fills CommandIn _ _ _ target-in (λ target t. end-fills CommandIn _ (u, d, t)))))))
-
-set-script-in : Yields CommandIn setScriptOf
-set-script-in = inside-yields CommandIn _ (skip CommandIn _ _ (λ _. one-fills CommandIn _ _ _ window-in (λ w i. one-fills CommandIn _ _ _ (numeral-yields _ _) (λ n s. end-fills CommandIn _ (i, s)))))
-
-set-script-state-in : Yields CommandIn setScriptStateOf
-set-script-state-in = inside-yields CommandIn _ (skip CommandIn _ _ (λ _. one-fills CommandIn _ _ _ window-in (λ w i. one-fills CommandIn _ _ _ (numeral-yields _ _) (λ n s. end-fills CommandIn _ (i, s)))))
+    one-fills CommandIn _ _ _ (optional-yields _) (λ data′ d. one-fills CommandIn _ _ _ (target-in _) (λ target t. end-fills CommandIn _ (u, d, t)))))))
 
 xhr-in : Yields CommandIn xhrOf
 xhr-in = inside-yields CommandIn _ (skip CommandIn _ _ (λ _. one-fills CommandIn _ _ _ url-in (λ url u. skip CommandIn _ _ (λ method.
@@ -102,6 +97,11 @@ xhr-in = inside-yields CommandIn _ (skip CommandIn _ _ (λ _. one-fills CommandI
 
 naming-in : (w : List ℕ) (command : WindowNumber → Command) → ((v : WindowNumber) → WindowNumberIn v → CommandIn (command v)) → Yields CommandIn (namingOf w command)
 naming-in w command h = inside-yields CommandIn _ (skip CommandIn _ _ (λ _. one-fills CommandIn _ _ _ window-in (λ v i. end-fills CommandIn _ (h v i))))
+
+-- (9:SETSCRIPT window script), (14:SETSCRIPTSTATE window scriptstate)
+setting-in : (w : List ℕ) (command : WindowNumber → ℕ → Command) → ((v : WindowNumber) (n : ℕ) → WindowNumberIn v → ValueIn n → CommandIn (command v n))
+    → Yields CommandIn (inside (one (word w) λ _. one windowOf λ v. one (numeral 0 most32) λ n. end (command v n)))
+setting-in w command h = inside-yields CommandIn _ (skip CommandIn _ _ (λ _. one-fills CommandIn _ _ _ window-in (λ v i. one-fills CommandIn _ _ _ (numeral-yields _ _) (λ n j. end-fills CommandIn _ (h v n i j)))))
 
 post-message-in : Yields CommandIn postMessageOf
 post-message-in = inside-yields CommandIn _ (skip CommandIn _ _ (λ _. one-fills CommandIn _ _ _ window-in (λ w i.
@@ -113,8 +113,8 @@ command-in =
     (either-yields CommandIn _ _ href-in
     (either-yields CommandIn _ _ iframe-in
     (either-yields CommandIn _ _ form-in
-    (either-yields CommandIn _ _ set-script-in
-    (either-yields CommandIn _ _ set-script-state-in
+    (either-yields CommandIn _ _ (setting-in _ _ (λ v n i j. (i, j)))
+    (either-yields CommandIn _ _ (setting-in _ _ (λ v n i j. (i, j)))
     (either-yields CommandIn _ _ xhr-in
     (either-yields CommandIn _ _ (naming-in _ Back (λ v i. i))
     (either-yields CommandIn _ _ (naming-in _ Forward (λ v i. i))
@@ -195,14 +195,11 @@ script-in =
     one-fills HappeningIn _ _ _ command-in (λ command k.
     end-fills HappeningIn _ (record { event = (w, record { state = s; local = l; session = v; command = k }); cookies = c })))))))))
 
-place-in : Yields TargetIn placeOf
-place-in = either-yields TargetIn _ _ (means-yields TargetIn _ NewWindow tt) (maps-yields TargetIn _ Existing _ window-in (λ w i. i))
-
 urlbar-in : Yields HappeningIn urlbarOf
 urlbar-in =
     inside-yields HappeningIn _
     (skip HappeningIn _ _ (λ _.
-    one-fills HappeningIn _ _ _ place-in (λ target t.
+    one-fills HappeningIn _ _ _ (target-in _) (λ target t.
     skip HappeningIn _ _ (λ protocol.
     one-fills HappeningIn _ _ _ (numeral-yields _ _) (λ host h.
     one-fills HappeningIn _ _ _ (numeral-yields _ _) (λ path p.
@@ -222,14 +219,17 @@ choices-in =
     (trigger-in _ GoBack (λ v i. i)))))
 
 -- ITEMS.
+brought-fills : (w : List ℕ) (k : ℕ → Fields Fresh) → ((n : ℕ) → Between 0 most32 n → Fills FreshIn (k n)) → Fills FreshIn (perhaps 0 (λ n. n) (labelledOf w 1 most32) k)
+brought-fills w k h = perhaps-fills FreshIn _ (Between 0 most32) 0 (λ n. n) _ k (none-between most32) (labelled-yields _ _ _) (also-none most32) h
+
 fresh-in : Yields FreshIn freshOf
 fresh-in =
     inside-yields FreshIn _
-    (perhaps-fills FreshIn _ (Between 0 most32) 0 (λ n. n) _ _ (none-between most32) (labelled-yields _ _ _) (also-none most32) (λ window w.
-    perhaps-fills FreshIn _ (Between 0 most32) 0 (λ n. n) _ _ (none-between most32) (labelled-yields _ _ _) (also-none most32) (λ request r.
-    perhaps-fills FreshIn _ (Between 0 most32) 0 (λ n. n) _ _ (none-between most32) (labelled-yields _ _ _) (also-none most32) (λ dns d.
-    perhaps-fills FreshIn _ (Between 0 most32) 0 (λ n. n) _ _ (none-between most32) (labelled-yields _ _ _) (also-none most32) (λ key k.
-    perhaps-fills FreshIn _ (Between 0 most32) 0 (λ n. n) _ _ (none-between most32) (labelled-yields _ _ _) (also-none most32) (λ document o.
+    (brought-fills _ _ (λ window w.
+    brought-fills _ _ (λ request r.
+    brought-fills _ _ (λ dns d.
+    brought-fills _ _ (λ key k.
+    brought-fills _ _ (λ document o.
     end-fills FreshIn _ (record { window = w; request = r; dns = d; key = k; document = o })))))))
 
 event-yields : {A : Type 0} (P : A → Type 0) (d : Decoder A) → Yields P d → Yields P (eventOf d)
