@@ -122,20 +122,24 @@ module _ (s : List ℕ) where
   pub bytes-not : {at a e : ℕ} → Strings s at a e → length s < e → [] ≡ bytesOf (stringAt s at)
   bytes-not m h = sym (ap bytesOf (sym (m .exactly) ∙ seen-past s _ _ h))
 
--- what is read off an atom that is there, and that is not there
-module _ {A : Type 0} (s : List ℕ) (at a e : ℕ) (f : List ℕ → Option A) where
-  pub atom-gives : {v : A} → Strings s at a e → e ≤ length s → f (take (e - a) (drop a s)) ≡ some v → Reads (atomOf f) s at v e
-  atom-gives {v} m h p = record {
-    exactly = seen-there s v e h ∙ sym (at-atom s at f ∙ ap (decode f) (sym (m .exactly) ∙ seen-there s (take (e - a) (drop a s)) e h) ∙ ap (λ (x : Option A). found x e) p);
+-- what is read off the bytes that `bytes` hands out: none where there is no atom, and then the position behind it lies past the end
+module _ {A : Type 0} (s : List ℕ) (at : ℕ) (f : List ℕ → Option A) {bs : List ℕ} {v : A} where
+  pub atom-gives : {a e : ℕ} → bs ≡ bytesOf (stringAt s at) → f bs ≡ some v → Strings s at a e → Reads (atomOf f) s at v e
+  atom-gives {a} {e} b q m = record {
+    exactly = go (leb e (length s)) (ap (λ (x : At (List ℕ)). f (bytesOf x)) (m .exactly) ∙ ap f (sym b) ∙ q) ∙ ap (decode f) (m .exactly) ∙ sym (at-atom s at f);
   }
+    where
+      go : (c : Bool) → f (bytesOf (cond c (ends (take (e - a) (drop a s)) e) fails)) ≡ some v
+          → cond c (ends v e) fails ≡ decode f (cond c (ends (take (e - a) (drop a s)) e) fails)
+      go true q = sym (ap (λ (x : Option A). found x e) q)
+      go false q = refl
 
-  pub atom-refuses : {v : A} {p : ℕ} → Strings s at a e → e ≤ length s → f (take (e - a) (drop a s)) ≡ none → length s < p → Reads (atomOf f) s at v p
-  atom-refuses {v} {p} m h q o = record {
-    exactly = seen-past s v p o ∙ sym (at-atom s at f ∙ ap (decode f) (sym (m .exactly) ∙ seen-there s (take (e - a) (drop a s)) e h) ∙ ap (λ (x : Option A). found x e) q);
-  }
-
-  pub atom-fails : {v : A} {p : ℕ} → Strings s at a e → length s < e → length s < p → Reads (atomOf f) s at v p
-  atom-fails {v} {p} m h o = record { exactly = seen-past s v p o ∙ sym (at-atom s at f ∙ ap (decode f) (sym (m .exactly) ∙ seen-past s (take (e - a) (drop a s)) e h)) }
+  pub atom-refuses : {p : ℕ} → bs ≡ bytesOf (stringAt s at) → f bs ≡ none → length s < p → Reads (atomOf f) s at v p
+  atom-refuses {p} b q o = record { exactly = seen-past s v p o ∙ sym (at-atom s at f ∙ go (stringAt s at) (ap f (sym b) ∙ q)) }
+    where
+      go : (m : At (List ℕ)) → f (bytesOf m) ≡ none → decode f m ≡ fails
+      go fails q = refl
+      go (ends x e) q = ap (λ (y : Option A). found y e) q
 
 -- Words
 

@@ -146,13 +146,10 @@ fn equal(a: &[u8], b: &[u8]) -> bool
 pub fn word(s: &[u8], at: usize, w: &[u8]) -> usize
     ensures { λ r. ⌜ Reads (word (now (w .entry))) (now (s .entry)) at tt r ⌝ }
 {
-    let p = atom(s, at);
-    let a = p.start;
-    let e = p.end;
-    if e <= s.len() {
-        if equal(w, &s[a..e]) {
-            return e;
-        }
+    let b = bytes(s, at);
+    if equal(w, b) {
+        let p = atom(s, at);
+        return p.end;
     }
     LOST
 }
@@ -167,21 +164,17 @@ pub struct Count {
 pub fn number(s: &[u8], at: usize, lo: u32, hi: u32) -> Count
     ensures { λ r. ⌜ Reads (numeral lo hi) (now (s .entry)) at (r .value) (r .next) ⌝ }
 {
-    let p = atom(s, at);
-    let a = p.start;
-    let e = p.end;
-    if e <= s.len() {
-        let t = &s[a..e];
-        let n = decimal(t, 0, hi as usize);
-        let v = n.value;
-        let next = n.next;
-        if next == t.len() {
-            if lo as usize <= v {
-                return Count {
-                    value: v as u32,
-                    next: e,
-                };
-            }
+    let b = bytes(s, at);
+    let n = decimal(b, 0, hi as usize);
+    let v = n.value;
+    let next = n.next;
+    if next == b.len() {
+        if lo as usize <= v {
+            let p = atom(s, at);
+            return Count {
+                value: v as u32,
+                next: p.end,
+            };
         }
     }
     Count {

@@ -1,4 +1,4 @@
-// Where a command aims: "`_BLANK` only in HREF and FORM" (01 "What a step does"), SELF only in IFRAME.
+// Where a command aims: "`_BLANK` only in HREF and FORM" (01 "What a step does"), `_SELF` and `SELF` only in IFRAME.
 ghost use Rattle.csexp.specs.Answers.{Reads};
 ghost use Rattle.shapes.specs.Items.{targetOf, holderOf, matchingOf, addresseeOf};
 use crate::read_origin;
@@ -40,15 +40,22 @@ pub struct HolderAt {
     pub next: usize,
 }
 
-// 4:SELF, or a labelled window
+// 5:_SELF, or 4:SELF as A7:28 prints it, or a labelled window
 pub fn read_holder(s: &[u8], at: usize) -> HolderAt
     ensures { λ r. ⌜ Reads holderOf (now (s .entry)) at (r .value) (r .next) ⌝ }
 {
-    let p = word(s, at, b"SELF");
+    let p = word(s, at, b"_SELF");
     if p <= s.len() {
         return HolderAt {
             value: Holder::Itself,
             next: p,
+        };
+    }
+    let q = word(s, at, b"SELF");
+    if q <= s.len() {
+        return HolderAt {
+            value: Holder::Itself,
+            next: q,
         };
     }
     let w = read_window(s, at);

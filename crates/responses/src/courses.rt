@@ -17,6 +17,8 @@ use types::commands::Script;
 use types::commands::ScriptState;
 use types::rows::Input;
 use types::rows::News;
+use words::statuses::StatusKind;
+use words::statuses::status_kind;
 ghost use mathlib.Core.Path.{_≡_};
 ghost use mathlib.Core.Option.{none};
 ghost use Rattle.wim.specs.Program.{observed, reached, listening};
@@ -61,11 +63,16 @@ fn alone(course: Course) -> Plan
     }
 }
 
-// A8:11
+// A8:11, by what the status says
 fn is_redirect(s: Status) -> bool
     ensures { λ r. ⌜ r ≡ isRedirect s ⌝ }
 {
-    sorted::either(s.0 == 303, s.0 == 307)
+    let kind = status_kind(s.0);
+    match kind {
+        StatusKind::Redirects => true,
+        StatusKind::Other => false,
+        StatusKind::NoStatus => false,
+    }
 }
 
 fn where_to(s: Status, l: Location) -> Location

@@ -97,9 +97,9 @@ methodOf = methodFrom 8 0
 abbrev pub targetOf : Decoder Target
 targetOf = either (means (text "_BLANK") NewWindow) (maps Existing windowOf)
 
--- 4:SELF, or a labelled window
+-- 5:_SELF, or 4:SELF as A7:28 prints it, or a labelled window
 abbrev pub holderOf : Decoder Holder
-holderOf = either (means (text "SELF") Itself) (maps Within windowOf)
+holderOf = either (means (text "_SELF") Itself) (either (means (text "SELF") Itself) (maps Within windowOf))
 
 -- () or a number
 abbrev pub matchingOf : Decoder Matching

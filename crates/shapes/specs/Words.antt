@@ -1,6 +1,8 @@
--- The parts that both directions share: the words, the ranges (01 "Numbers, names, sizes"), the methods of RFC 9110.
+-- The parts that both directions share: the words, the ranges (01 "Numbers, names, sizes"), the methods of RFC 9110, the statuses that redirect.
+use mathlib.Core.Bool.{Bool, _||_}
 use mathlib.Core.List.{List, [], _∷_}
 use Prim.Native.Nat.{ℕ}
+use lib.Dec.{eqb}
 use lib.ListN.{getD}
 use Rattle.csexp.specs.Text.{text}
 use Rattle.shapes.specs.Nouns.{Method, Get, Head, Post, Put, Delete, Connect, Options, Trace}
@@ -32,3 +34,7 @@ methodIn i = getD (Get ∷ Head ∷ Post ∷ Put ∷ Delete ∷ Connect ∷ Opti
 
 abbrev pub spelling : Method → List ℕ
 spelling m = getD spellings (rowOf m) []
+
+-- "only 303 and 307 with a Location redirect"
+abbrev pub redirects : ℕ → Bool
+redirects n = eqb n 303 || eqb n 307

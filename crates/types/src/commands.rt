@@ -16,7 +16,7 @@ pub enum Target {
     Existing(WindowNumber),
 }
 
-// Under which window a frame is hung: the script's own (`SELF`) or another.
+// Under which window a frame is hung: the script's own (`_SELF`, or `SELF`) or another.
 pub enum Holder {
     Itself,
     Within(WindowNumber),

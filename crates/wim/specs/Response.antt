@@ -9,6 +9,7 @@ use Rattle.sorted.specs.Table.{keep, put, drop}
 use Rattle.tables.specs.Tables.{documents, cookies, inputs, pendingRequests, sts, isSecure, Edits}
 use Rattle.tables.specs.Labels.{document}
 use Rattle.tables.specs.Rows.{sameOrigin, settingActive}
+use Rattle.shapes.specs.Words.{redirects}
 use Rattle.wim.specs.Nouns.{WindowNumber, Url, Origin, Fragment, Absent, Named, Cookie, Method, Get, OriginHeader, Unsent, Null, From, Matching, Reference, Req, Xhr, Sending, Script, ScriptState, Status, Location, Nowhere, To, Body, Number, Page, Answer, Document, Waiting, Answered}
 use Rattle.wim.specs.Walks.{activeAmong, Removal}
 use Rattle.wim.specs.Cookies.{addCookies}
@@ -30,7 +31,7 @@ actOnHeaders w a new p = do
 
 -- 11: "Location ∈ response.headers ∧ response.status ∈ {303, 307}"
 abbrev pub isRedirect : Status → Bool
-isRedirect s = eqb (s .0) 303 || eqb (s .0) 307
+isRedirect s = redirects (s .0)
 
 abbrev pub whereTo : Status → Location → Option Url
 whereTo s Nowhere = none

@@ -1,12 +1,13 @@
--- What kind a status number is of, by where it lies; and where it lies, by its kind.
-use mathlib.Core.Path.{_≡_, refl, sym, ap}
+-- What kind a status number is of, by where it lies; and where it lies and whether it redirects, by its kind.
+use mathlib.Core.Path.{_≡_, refl, sym, ap, _∙_}
 use mathlib.Core.Logic.{_⊎_, inl, inr}
-use mathlib.Core.Bool.{Bool, true, false, cond}
+use mathlib.Core.Bool.{Bool, true, false, cond, _||_}
 use Prim.Native.Nat.{ℕ, _≤_, _<_}
 use native.Mathlib.Omega.{arith}
-use lib.Dec.{leb}
-use borrow.Author.Tests.{leb-true, leb-false, le-leb, lt-leb, ne-eqb}
-use Rattle.words.specs.Status.{StatusKind, Redirects, Other, NoStatus, redirects, statusKind}
+use lib.Dec.{eqb, leb}
+use borrow.Author.Tests.{leb-true, leb-false, le-leb, lt-leb, eqb-true, ne-eqb}
+use Rattle.shapes.specs.Words.{redirects}
+use Rattle.words.specs.Status.{StatusKind, Redirects, Other, NoStatus, statusKind}
 
 pub redirecting : (n : ℕ) → (n ≡ 303) ⊎ (n ≡ 307) → Redirects ≡ statusKind n
 unfolding statusKind
@@ -51,3 +52,23 @@ status-out n e l = go (leb n 505) refl (simp (le-leb 100 n l) at e)
     go : (b : Bool) → leb n 505 ≡ b → cond b (cond (redirects n) Redirects Other) NoStatus ≡ NoStatus → 505 < n
     go true x q = let z = kinds (redirects n) q in absurd (omega arith)
     go false x q = leb-false n 505 x
+
+-- only what is of that kind redirects
+abbrev pub isRedirects : StatusKind → Bool
+isRedirects Redirects = true
+isRedirects Other = false
+isRedirects NoStatus = false
+
+pub redirects-by-kind : (n : ℕ) (k : StatusKind) → k ≡ statusKind n → isRedirects k ≡ redirects n
+unfolding statusKind
+redirects-by-kind n k e = ap isRedirects e ∙ go (eqb n 303) (eqb n 307) refl refl
+  where
+    neither : (a b : Bool) → isRedirects (cond a (cond b Other NoStatus) NoStatus) ≡ false
+    neither true true = refl
+    neither true false = refl
+    neither false b = refl
+
+    go : (x y : Bool) → eqb n 303 ≡ x → eqb n 307 ≡ y → isRedirects (cond (leb 100 n) (cond (leb n 505) (cond (x || y) Redirects Other) NoStatus) NoStatus) ≡ x || y
+    go true y p q = ap (λ (m : ℕ). isRedirects (cond (leb 100 m) (cond (leb m 505) Redirects NoStatus) NoStatus)) (eqb-true n 303 p)
+    go false true p q = ap (λ (m : ℕ). isRedirects (cond (leb 100 m) (cond (leb m 505) Redirects NoStatus) NoStatus)) (eqb-true n 307 q)
+    go false false p q = neither (leb 100 n) (leb n 505)

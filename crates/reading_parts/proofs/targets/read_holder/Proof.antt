@@ -12,7 +12,11 @@ returns-2 : tie.Need-returns-2
 returns-2 c =
     search readers depth 16
 
+returns-3 : tie.Need-returns-3
+returns-3 c =
+    search readers depth 16
+
 pub read-holder-spec : {M : Type 1} → statement M
 read-holder-spec =
     tie.close
-    (tie.spec (λ c. search needs) (λ c κs. search needs) returns (λ c κs. search needs) returns-2)
+    (tie.spec (λ c. search needs) (λ c κs. search needs) returns (λ c. search needs) (λ c κs. search needs) returns-2 (λ c κs. search needs) returns-3)
