@@ -16,6 +16,7 @@ USES = [f'types::{name}' for name in [
 }.items() for name in names]
 
 CITES = {
+    'Rattle.types.specs.Lists': ['windowNumbers', 'documentNumbers', 'cookiesIn'],
     'Rattle.types.specs.declared.WindowNumbers': ['WindowNumbers'],
     'Rattle.types.specs.declared.DocumentNumbers': ['DocumentNumbers'],
     'Rattle.types.specs.declared.DnsNumber': ['DnsNumber'],
@@ -226,7 +227,7 @@ SENT_TO = Collect('sent_to', 'What a request to a host over a protocol carries.'
 PUT_ALL = Function('put_all', """
 // One cookie after the other for a host, up to the first that finds no room; whether all did. Those before it are in.
 pub fn put_all(m: &mut Memory, h: Host, few: SetCookies) -> bool
-    ensures { λ r. ⌜ PutAll h (take (few .count) (few .rows)) (now (m .entry)) (now (m .exit)) r ⌝ }
+    ensures { λ r. ⌜ PutAll h (cookiesIn few) (now (m .entry)) (now (m .exit)) r ⌝ }
 {
     let n = sorted::used(few.count, FEW);
     let mut i: usize = 0;
@@ -276,7 +277,7 @@ use Rattle.sorted.specs.Table.{put, insert, Offered}
 use Rattle.memory.specs.Rows.{table, end, Within}
 use Rattle.tables.specs.Nouns.{Host, Cookie, HostCookie}
 use Rattle.tables.specs.Tables.{cookies, keyOf, cmp, cap, Edits, changed}
-use Rattle.layouts.specs.Tables.{cookiesIn}
+use Rattle.layouts.specs.Tables.{hostCookiesIn}
 
 abbrev pub rowFor : Host → Cookie → HostCookie
 rowFor h c = record { host = h; cookie = c }
@@ -292,9 +293,9 @@ asFar h (c ∷ cs) l =
 
 -- all go in, if there is room for all; where there is not, those before the first that finds none are in; nothing else changes
 pub record PutAll (h : Host) (cs : List Cookie) (m n : List ℕ) (done : Bool) : Type 0 where
-  pub rows : Offered (cap cookies) (changed cookies (stored h cs) (table cookiesIn m)) (table cookiesIn n) done
-  pub left : table cookiesIn n ≡ asFar h cs (table cookiesIn m)
-  pub rest : Within (cookiesIn .base) (end cookiesIn) m n
+  pub rows : Offered (cap cookies) (changed cookies (stored h cs) (table hostCookiesIn m)) (table hostCookiesIn n) done
+  pub left : table hostCookiesIn n ≡ asFar h cs (table hostCookiesIn m)
+  pub rest : Within (hostCookiesIn .base) (end hostCookiesIn) m n
 """
 FILLED_LAWS = """-- The loop that puts several cookies in, by the law of `sorted` for the rows. Written by tools/tables.py.
 use mathlib.Core.Path.{_≡_, sym, ap, _∙_}
@@ -311,61 +312,61 @@ use Rattle.memory.proofs.Table.{rows-length}
 use Rattle.memory.proofs.Frame.{within-refl, within-then}
 use Rattle.tables.specs.Nouns.{Host, Cookie, HostCookie}
 use Rattle.tables.specs.Tables.{cookies, keyOf, cmp, cap}
-use Rattle.layouts.specs.Tables.{cookiesIn}
+use Rattle.layouts.specs.Tables.{hostCookiesIn}
 use Rattle.cookies.specs.Filled.{rowFor, asFar, PutAll}
 
 -- of the `few` those before i are in
 pub record Filing (h : Host) (size n : ℕ) (few : List Cookie) (m₀ m : List ℕ) (i : ℕ) : Type 0 where
   pub len : length few ≡ 4
   pub counts : n ≡ min size 4
-  pub putting : Putting (keyOf cookies) (cmp cookies) (rowFor h) (cap cookies) size 4 n few (table cookiesIn m₀) (table cookiesIn m) i
-  pub far : asFar h (drop i (take n few)) (table cookiesIn m) ≡ asFar h (take size few) (table cookiesIn m₀)
-  pub rest : Within (cookiesIn .base) (end cookiesIn) m₀ m
+  pub putting : Putting (keyOf cookies) (cmp cookies) (rowFor h) (cap cookies) size 4 n few (table hostCookiesIn m₀) (table hostCookiesIn m) i
+  pub far : asFar h (drop i (take n few)) (table hostCookiesIn m) ≡ asFar h (take size few) (table hostCookiesIn m₀)
+  pub rest : Within (hostCookiesIn .base) (end hostCookiesIn) m₀ m
 
 module _ {h : Host} {size n : ℕ} {few : List Cookie} {m₀ : List ℕ} where
   pub file-start : length few ≡ 4 → n ≡ min size 4 → Filing h size n few m₀ m₀ 0
   file-start l e = record {
     len = l;
     counts = e;
-    putting = put-start _ _ _ _ _ _ _ _ _ l e (taken-fits (count cookiesIn m₀) (cap cookies) (rows cookiesIn m₀) (rows-length cookiesIn m₀));
-    far = ap (λ (cs : List Cookie). asFar h cs (table cookiesIn m₀)) (all-rows size 4 n few l e);
+    putting = put-start _ _ _ _ _ _ _ _ _ l e (taken-fits (count hostCookiesIn m₀) (cap cookies) (rows hostCookiesIn m₀) (rows-length hostCookiesIn m₀));
+    far = ap (λ (cs : List Cookie). asFar h cs (table hostCookiesIn m₀)) (all-rows size 4 n few l e);
     rest = within-refl _ _ _;
   }
 
-  module _ {m m₁ : List ℕ} {i : ℕ} {done : Bool} (d : Cookie) (s : Filing h size n few m₀ m i) (p : Put cookiesIn (keyOf cookies) (cmp cookies) (rowFor h (getD few i d)) m m₁ done) (b : i < n) where
-    next : asFar h (getD few i d ∷ drop (i + 1) (take n few)) (table cookiesIn m) ≡ asFar h (take size few) (table cookiesIn m₀)
-    next = ap (λ (cs : List Cookie). asFar h cs (table cookiesIn m)) (sym (next-row size 4 n few (s .len) (s .counts) i d b)) ∙ s .far
+  module _ {m m₁ : List ℕ} {i : ℕ} {done : Bool} (d : Cookie) (s : Filing h size n few m₀ m i) (p : Put hostCookiesIn (keyOf cookies) (cmp cookies) (rowFor h (getD few i d)) m m₁ done) (b : i < n) where
+    next : asFar h (getD few i d ∷ drop (i + 1) (take n few)) (table hostCookiesIn m) ≡ asFar h (take size few) (table hostCookiesIn m₀)
+    next = ap (λ (cs : List Cookie). asFar h cs (table hostCookiesIn m)) (sym (next-row size 4 n few (s .len) (s .counts) i d b)) ∙ s .far
 
     pub file-next : done ≡ true → Filing h size n few m₀ m₁ (i + 1)
     file-next e =
-        let f : leb (length (insert (keyOf cookies) (cmp cookies) (rowFor h (getD few i d)) (table cookiesIn m))) (cap cookies) ≡ true = sym (p .rows .had) ∙ e in
-        let t : List HostCookie = insert (keyOf cookies) (cmp cookies) (rowFor h (getD few i d)) (table cookiesIn m) in
+        let f : leb (length (insert (keyOf cookies) (cmp cookies) (rowFor h (getD few i d)) (table hostCookiesIn m))) (cap cookies) ≡ true = sym (p .rows .had) ∙ e in
+        let t : List HostCookie = insert (keyOf cookies) (cmp cookies) (rowFor h (getD few i d)) (table hostCookiesIn m) in
         record {
           len = s .len;
           counts = s .counts;
-          putting = put-next _ _ _ _ _ _ _ _ _ (s .putting) d (table cookiesIn m₁) b (p .rows .rows e) f;
-          far = ap (asFar h (drop (i + 1) (take n few))) (p .rows .rows e) ∙ sym (ap (λ (x : Bool). cond x (asFar h (drop (i + 1) (take n few)) t) (table cookiesIn m)) f) ∙ next;
+          putting = put-next _ _ _ _ _ _ _ _ _ (s .putting) d (table hostCookiesIn m₁) b (p .rows .rows e) f;
+          far = ap (asFar h (drop (i + 1) (take n few))) (p .rows .rows e) ∙ sym (ap (λ (x : Bool). cond x (asFar h (drop (i + 1) (take n few)) t) (table hostCookiesIn m)) f) ∙ next;
           rest = within-then (s .rest) (p .rest);
         }
 
     pub file-stop : done ≡ false → PutAll h (take size few) m₀ m₁ false
     file-stop e =
-        let f : leb (length (insert (keyOf cookies) (cmp cookies) (rowFor h (getD few i d)) (table cookiesIn m))) (cap cookies) ≡ false = sym (p .rows .had) ∙ e in
-        let t : List HostCookie = insert (keyOf cookies) (cmp cookies) (rowFor h (getD few i d)) (table cookiesIn m) in
+        let f : leb (length (insert (keyOf cookies) (cmp cookies) (rowFor h (getD few i d)) (table hostCookiesIn m))) (cap cookies) ≡ false = sym (p .rows .had) ∙ e in
+        let t : List HostCookie = insert (keyOf cookies) (cmp cookies) (rowFor h (getD few i d)) (table hostCookiesIn m) in
         record {
-          rows = put-stop _ _ _ _ _ _ _ _ _ (s .putting) d (table cookiesIn m₁) b f;
-          left = ap (table cookiesIn) (p .same e) ∙ sym (ap (λ (x : Bool). cond x (asFar h (drop (i + 1) (take n few)) t) (table cookiesIn m)) f) ∙ next;
+          rows = put-stop _ _ _ _ _ _ _ _ _ (s .putting) d (table hostCookiesIn m₁) b f;
+          left = ap (table hostCookiesIn) (p .same e) ∙ sym (ap (λ (x : Bool). cond x (asFar h (drop (i + 1) (take n few)) t) (table hostCookiesIn m)) f) ∙ next;
           rest = within-then (s .rest) (p .rest);
         }
 
   pub file-end : {m : List ℕ} {i : ℕ} → Filing h size n few m₀ m i → n ≤ i → PutAll h (take size few) m₀ m true
   file-end {m} {i} s b = record {
     rows = put-end _ _ _ _ _ _ _ _ _ (s .putting) b;
-    left = ap (λ (cs : List Cookie). asFar h cs (table cookiesIn m)) (sym (no-row size 4 n few (s .len) (s .counts) i b)) ∙ s .far;
+    left = ap (λ (cs : List Cookie). asFar h cs (table hostCookiesIn m)) (sym (no-row size 4 n few (s .len) (s .counts) i b)) ∙ s .far;
     rest = s .rest;
   }
 """
-cookies = table('cookies', 'cookies', 'cookiesIn', 'HostCookie', 'hostCookieOf', ('COOKIES', 64), [
+cookies = table('cookies', 'cookies', 'hostCookiesIn', 'HostCookie', 'hostCookieOf', ('COOKIES', 64), [
     ('host', Half('Host')),
     ('cookie', Struct('Cookie', [
         ('name', Struct('CookieName', [('prefixed', Flag()), ('number', Short())])),

@@ -736,7 +736,7 @@ pub fn without(m: &mut Memory, gone: {numbers})
 ''', proof, why='The loop keeps the rows that are spared.', before=before)], f'''
 -- the rows that stay where those with one of these numbers go
 abbrev pub spares : {numbers} → @Row@ → Bool
-spares gone row = not ({means} (row .{path}) (take (gone .count) (gone .rows)))
+spares gone row = not ({means} (row .{path}) ({listed(numbers)} gone))
 '''
 
 
@@ -794,7 +794,7 @@ def Collect(name, about, params, test, meaning, item, item_meaning, into, empty,
     place = lambda call: antt(call.split('(')[0].split('::')[-1])
     passing, made = place(test), place(empty)
     items = f'map {item_meaning} (keep ({meaning}) (table @layout@ (now (m .entry))))'
-    promised = f'r ≡ {result} ({items})' if result else f'take (r .count) (r .rows) ≡ {items}'
+    promised = f'r ≡ {result} ({items})' if result else f'{listed(into)} r ≡ {items}'
     taken = f'{item}(seen)' if item else f'seen.{path}'
     source = f'''
 // {about}
@@ -1163,6 +1163,11 @@ def together(*cites):
 
 def antt(name):
     return name.replace('_', '-')
+
+
+def listed(struct):
+    """The definition that makes a list of such a struct { rows, count }."""
+    return struct[0].lower() + struct[1:]
 
 
 def key_lines(table):

@@ -8,12 +8,12 @@ use Rattle.tables.specs.Tables.{Table, windows, documents, cookies, localStorag
 use Rattle.tables.specs.Labels.{every}
 use Rattle.wim.specs.Step.{Browser}
 use Rattle.memory.specs.Rows.{total, Layout, table}
-use Rattle.layouts.specs.Tables.{windowsIn, documentsIn, cookiesIn, localIn, sessionIn, inputsIn, questionsIn, requestsIn, stsIn}
+use Rattle.layouts.specs.Tables.{windowsIn, documentsIn, hostCookiesIn, localIn, sessionIn, inputsIn, questionsIn, requestsIn, stsIn}
 
 abbrev pub laid : (t : Table) → Layout (Row t)
 laid windows = windowsIn
 laid documents = documentsIn
-laid cookies = cookiesIn
+laid cookies = hostCookiesIn
 laid localStorage = localIn
 laid sessionStorage = sessionIn
 laid inputs = inputsIn

@@ -6,9 +6,9 @@ use lib.ListN.{getD}
 use Rattle.memory.specs.Rows.{Read}
 use Rattle.memory.proofs.Table.{cell, cell-first, row-at}
 use Rattle.layouts.specs.Codes.{flagOf}
-use Rattle.layouts.specs.Tables.{cookiesIn}
+use Rattle.layouts.specs.Tables.{hostCookiesIn}
 
-pub cookies-at : (m : List ℕ) (i : ℕ) → i < 64 → Read cookiesIn m i (record {
+pub hostCookies-at : (m : List ℕ) (i : ℕ) → i < 64 → Read hostCookiesIn m i (record {
   host = record { 0 = getD m (1443 + i * 7) 0 % 65536 };
   cookie = record {
     name = record {
@@ -21,4 +21,4 @@ pub cookies-at : (m : List ℕ) (i : ℕ) → i < 64 → Read cookiesIn m i (rec
     httponly = flagOf (getD m (1443 + i * 7 + 6) 0);
   };
 })
-cookies-at m i h = let p : ℕ = 1443 + i * 7 in record { is = rw (row-at cookiesIn m i h, cell-first 7 p m (omega arith), cell 7 p 1 m (omega arith), cell 7 p 2 m (omega arith), cell 7 p 3 m (omega arith), cell 7 p 4 m (omega arith), cell 7 p 5 m (omega arith), cell 7 p 6 m (omega arith)) }
+hostCookies-at m i h = let p : ℕ = 1443 + i * 7 in record { is = rw (row-at hostCookiesIn m i h, cell-first 7 p m (omega arith), cell 7 p 1 m (omega arith), cell 7 p 2 m (omega arith), cell 7 p 3 m (omega arith), cell 7 p 4 m (omega arith), cell 7 p 5 m (omega arith), cell 7 p 6 m (omega arith)) }

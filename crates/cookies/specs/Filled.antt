@@ -9,7 +9,7 @@ use Rattle.sorted.specs.Table.{put, insert, Offered}
 use Rattle.memory.specs.Rows.{table, end, Within}
 use Rattle.tables.specs.Nouns.{Host, Cookie, HostCookie}
 use Rattle.tables.specs.Tables.{cookies, keyOf, cmp, cap, Edits, changed}
-use Rattle.layouts.specs.Tables.{cookiesIn}
+use Rattle.layouts.specs.Tables.{hostCookiesIn}
 
 abbrev pub rowFor : Host → Cookie → HostCookie
 rowFor h c = record { host = h; cookie = c }
@@ -25,6 +25,6 @@ asFar h (c ∷ cs) l =
 
 -- all go in, if there is room for all; where there is not, those before the first that finds none are in; nothing else changes
 pub record PutAll (h : Host) (cs : List Cookie) (m n : List ℕ) (done : Bool) : Type 0 where
-  pub rows : Offered (cap cookies) (changed cookies (stored h cs) (table cookiesIn m)) (table cookiesIn n) done
-  pub left : table cookiesIn n ≡ asFar h cs (table cookiesIn m)
-  pub rest : Within (cookiesIn .base) (end cookiesIn) m n
+  pub rows : Offered (cap cookies) (changed cookies (stored h cs) (table hostCookiesIn m)) (table hostCookiesIn n) done
+  pub left : table hostCookiesIn n ≡ asFar h cs (table hostCookiesIn m)
+  pub rest : Within (hostCookiesIn .base) (end hostCookiesIn) m n

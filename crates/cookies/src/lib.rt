@@ -22,14 +22,14 @@ use types::cookies::SetCookies;
 use types::rows::HostCookie;
 ghost use mathlib.Core.Path.{_≡_};
 ghost use mathlib.Core.List.{map};
-ghost use lib.ListN.{take};
 ghost use Rattle.sorted.specs.Table.{find, keep, looked};
 ghost use Rattle.memory.specs.Rows.{table, Found as Placed, Kept, Put, Cleared};
+ghost use Rattle.types.specs.Lists.{cookiesIn};
 ghost use Rattle.tables.specs.Tables.{cookies, keyOf, cmp};
 ghost use Rattle.tables.specs.Rows.{pairOf, jar};
 ghost use Rattle.cookies.specs.Filled.{PutAll};
 ghost use Rattle.cookies.specs.Which.{passes, keyStands, goesTo};
-ghost use Rattle.layouts.specs.Tables.{cookiesIn};
+ghost use Rattle.layouts.specs.Tables.{hostCookiesIn};
 
 // A row, if one was found. Where none was, `row` says nothing.
 pub struct Found {
@@ -39,7 +39,7 @@ pub struct Found {
 
 // The place of the first row that does not stand before a key, whether it has that key, and how many rows count.
 fn seek(m: &Memory, host: Host, prefixed: bool, number: u16) -> sorted::At
-    ensures { λ a. ⌜ Placed cookiesIn (keyStands host prefixed number) (now (m .entry)) (a .place) (a .hit) (a .used) ⌝ }
+    ensures { λ a. ⌜ Placed hostCookiesIn (keyStands host prefixed number) (now (m .entry)) (a .place) (a .hit) (a .used) ⌝ }
 {
     let n = size(m);
     let mut i: usize = 0;
@@ -64,7 +64,7 @@ fn seek(m: &Memory, host: Host, prefixed: bool, number: u16) -> sorted::At
 
 // The first row that passes a test.
 pub fn first(m: &Memory, q: Which) -> Found
-    ensures { λ r. ⌜ looked (r .found) (r .row) ≡ find (passes q) (table cookiesIn (now (m .entry))) ⌝ }
+    ensures { λ r. ⌜ looked (r .found) (r .row) ≡ find (passes q) (table hostCookiesIn (now (m .entry))) ⌝ }
 {
     let n = size(m);
     let mut i: usize = 0;
@@ -87,7 +87,7 @@ pub fn first(m: &Memory, q: Which) -> Found
 
 // Only rows that pass a test stay. None is copied onto itself.
 pub fn keep(m: &mut Memory, q: Which)
-    ensures { λ r. ⌜ Kept cookiesIn (passes q) (now (m .entry)) (now (m .exit)) ⌝ }
+    ensures { λ r. ⌜ Kept hostCookiesIn (passes q) (now (m .entry)) (now (m .exit)) ⌝ }
 {
     memory::whole(m);
     let n = size(m);
@@ -113,7 +113,7 @@ pub fn keep(m: &mut Memory, q: Which)
 
 // A row goes in, in the place of the one with its key; whether there was room. Where there was none, nothing changes.
 pub fn put(m: &mut Memory, row: HostCookie) -> bool
-    ensures { λ r. ⌜ Put cookiesIn (keyOf cookies) (cmp cookies) row (now (m .entry)) (now (m .exit)) r ⌝ }
+    ensures { λ r. ⌜ Put hostCookiesIn (keyOf cookies) (cmp cookies) row (now (m .entry)) (now (m .exit)) r ⌝ }
 {
     memory::whole(m);
     let host = row.host;
@@ -139,7 +139,7 @@ pub fn put(m: &mut Memory, row: HostCookie) -> bool
 
 // No row is left.
 pub fn clear(m: &mut Memory)
-    ensures { λ r. ⌜ Cleared cookiesIn (now (m .entry)) (now (m .exit)) ⌝ }
+    ensures { λ r. ⌜ Cleared hostCookiesIn (now (m .entry)) (now (m .exit)) ⌝ }
 {
     memory::whole(m);
     m[COUNT] = 0;
@@ -147,7 +147,7 @@ pub fn clear(m: &mut Memory)
 
 // What a request to a host over a protocol carries.
 pub fn sent_to(m: &Memory, h: Host, p: Protocol) -> Jar
-    ensures { λ r. ⌜ r ≡ jar (map pairOf (keep (goesTo h p) (table cookiesIn (now (m .entry))))) ⌝ }
+    ensures { λ r. ⌜ r ≡ jar (map pairOf (keep (goesTo h p) (table hostCookiesIn (now (m .entry))))) ⌝ }
 {
     let n = size(m);
     let mut out = labels::empty_jar();
@@ -173,7 +173,7 @@ const FEW: usize = 4;
 
 // One cookie after the other for a host, up to the first that finds no room; whether all did. Those before it are in.
 pub fn put_all(m: &mut Memory, h: Host, few: SetCookies) -> bool
-    ensures { λ r. ⌜ PutAll h (take (few .count) (few .rows)) (now (m .entry)) (now (m .exit)) r ⌝ }
+    ensures { λ r. ⌜ PutAll h (cookiesIn few) (now (m .entry)) (now (m .exit)) r ⌝ }
 {
     let n = sorted::used(few.count, FEW);
     let mut i: usize = 0;

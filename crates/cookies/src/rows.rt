@@ -10,7 +10,7 @@ ghost use mathlib.Core.List.{[]};
 ghost use Prim.Native.Nat.{_<_};
 ghost use lib.ListN.{length};
 ghost use Rattle.memory.specs.Rows.{table, Read, Written};
-ghost use Rattle.layouts.specs.Tables.{cookiesIn};
+ghost use Rattle.layouts.specs.Tables.{hostCookiesIn};
 ghost use Rattle.layouts.specs.Rows.{hostCookieOf};
 
 // How many rows there is room for.
@@ -44,7 +44,7 @@ pub fn blank() -> HostCookie
 
 // Row i; behind the last there is what no numbers say.
 pub fn row(m: &Memory, i: usize) -> HostCookie
-    ensures { λ r. ⌜ Read cookiesIn (now (m .entry)) i r ⌝ }
+    ensures { λ r. ⌜ Read hostCookiesIn (now (m .entry)) i r ⌝ }
 {
     if i < COOKIES {
         let p = FIRST + i * WIDTH;
@@ -74,7 +74,7 @@ pub fn row(m: &Memory, i: usize) -> HostCookie
 
 // How many rows count.
 pub fn size(m: &Memory) -> usize
-    ensures { λ r. ⌜ r ≡ length (table cookiesIn (now (m .entry))) ⌝ }
+    ensures { λ r. ⌜ r ≡ length (table hostCookiesIn (now (m .entry))) ⌝ }
 {
     memory::used(m, COUNT, COOKIES)
 }
@@ -104,7 +104,7 @@ fn numbers_of(row: HostCookie) -> [u32; 7]
 
 // Row i's numbers, where there is room for them.
 pub fn write(m: &mut Memory, i: usize, row: HostCookie)
-    ensures { λ r. ⌜ (i < 64 → Written cookiesIn row i (now (m .entry)) (now (m .exit))) ⌝ }
+    ensures { λ r. ⌜ (i < 64 → Written hostCookiesIn row i (now (m .entry)) (now (m .exit))) ⌝ }
 {
     memory::whole(m);
     if i < COOKIES {

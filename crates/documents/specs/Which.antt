@@ -2,8 +2,8 @@
 use mathlib.Core.Bool.{Bool, not, _&&_}
 use Prim.Native.Nat.{ℕ, suc}
 use lib.Dec.{eqb, ltb, leb}
-use lib.ListN.{take}
 use Rattle.sorted.specs.declared.Order.{Order}
+use Rattle.types.specs.Lists.{documentNumbers}
 use Rattle.types.specs.declared.DocumentNumbers.{DocumentNumbers}
 use Rattle.types.specs.declared.WindowNumber.{WindowNumber}
 use Rattle.tables.specs.Nouns.{DocumentNumber, Document}
@@ -18,7 +18,7 @@ use Rattle.documents.specs.declared.tests.Which.the-variants.{InWindow, 
 
 -- the rows that stay where those with one of these numbers go
 abbrev pub spares : DocumentNumbers → Document → Bool
-spares gone row = not (oneOf (row .number) (take (gone .count) (gone .rows)))
+spares gone row = not (oneOf (row .number) (documentNumbers gone))
 
 abbrev pub numberOf : Document → DocumentNumber
 numberOf d = d .number

@@ -25,9 +25,10 @@ use types::WindowNumber;
 use types::rows::Document;
 ghost use mathlib.Core.Path.{_≡_};
 ghost use mathlib.Core.List.{map};
-ghost use lib.ListN.{length, take};
+ghost use lib.ListN.{length};
 ghost use Rattle.sorted.specs.Table.{find, keep, looked};
 ghost use Rattle.memory.specs.Rows.{table, Found as Placed, Kept, Put, Revised, Cleared};
+ghost use Rattle.types.specs.Lists.{documentNumbers};
 ghost use Rattle.tables.specs.Tables.{documents, keyOf, cmp};
 ghost use Rattle.tables.specs.Labels.{clean};
 ghost use Rattle.tables.specs.View.{labelOf};
@@ -206,7 +207,7 @@ fn no_numbers() -> DocumentNumbers {
 
 // The numbers of the documents that pass a test.
 pub fn numbers(m: &Memory, q: Which) -> DocumentNumbers
-    ensures { λ r. ⌜ take (r .count) (r .rows) ≡ map numberOf (keep (passes q) (table documentsIn (now (m .entry)))) ⌝ }
+    ensures { λ r. ⌜ documentNumbers r ≡ map numberOf (keep (passes q) (table documentsIn (now (m .entry)))) ⌝ }
 {
     let n = size(m);
     let mut out = no_numbers();

@@ -12,15 +12,11 @@ use Rattle.shapes.specs.Events.{Message}
 use Rattle.shapes.specs.Texts.{item, itemIn}
 use Rattle.wim.specs.Nouns.{WindowNumber, Host, Item, Accepted}
 use Rattle.wim.specs.Main.{cookiesIn}
-use Rattle.wim.specs.Step.{freshLabels, Browser, emptyBrowser, accepted, step}
+use Rattle.wim.specs.Step.{freshLabels, Browser, accepted, step}
+pub use Rattle.wim.specs.Made.{Made, empty, next}
 use Rattle.wim.specs.LocalSteps.{isLocal, stands, hosts, names}
 use Rattle.wim.specs.Wire.{Returned, rehearse}
 use Rattle.wim.specs.Run.{eventLine, line, play}
-
--- "Demand 3 speaks of browsers that accepted steps have made from the empty open one."
-pub data Made : Browser → Type 0 where
-  empty : Made emptyBrowser
-  next : {b c : Browser} (i : Item) (m : Option Message) → Made b → step i b ≡ accepted c m → Made c
 
 -- every table has eight free rows
 abbrev pub EightFree : Tables → Type 0

@@ -11,7 +11,7 @@ ghost use Rattle.csexp.specs.Encode.{each};
 ghost use Rattle.csexp.specs.Puts.{Writes};
 ghost use Rattle.sorted.specs.Table.{keep};
 ghost use Rattle.memory.specs.Rows.{table};
-ghost use Rattle.layouts.specs.Tables.{cookiesIn};
+ghost use Rattle.layouts.specs.Tables.{hostCookiesIn};
 ghost use Rattle.wim.specs.Shown.{cookieTerm};
 ghost use Rattle.exhibit_parts.specs.Kept.{isOpenTo};
 
@@ -35,7 +35,7 @@ fn write_cookie(out: &mut [u8], at: usize, row: HostCookie) -> usize
 }
 
 pub fn write_cookies(m: &Memory, out: &mut [u8], at: usize, origin: Origin) -> usize
-    ensures { λ r. ⌜ Writes (list (each cookieTerm (keep (isOpenTo origin) (table cookiesIn (now (m .entry)))))) (now (out .entry)) at (now (out .exit)) r ⌝ }
+    ensures { λ r. ⌜ Writes (list (each cookieTerm (keep (isOpenTo origin) (table hostCookiesIn (now (m .entry)))))) (now (out .entry)) at (now (out .exit)) r ⌝ }
 {
     let n = cookies::size(m);
     let mut p = open_list(out, at);

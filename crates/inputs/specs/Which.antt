@@ -1,8 +1,8 @@
 -- What the tests of Which mean, and what else the contracts say. Written by tools/tables.py.
 use mathlib.Core.Bool.{Bool, not}
 use Prim.Native.Nat.{ℕ}
-use lib.ListN.{take}
 use Rattle.sorted.specs.declared.Order.{Order}
+use Rattle.types.specs.Lists.{documentNumbers}
 use Rattle.types.specs.declared.DocumentNumbers.{DocumentNumbers}
 use Rattle.tables.specs.Nouns.{DocumentNumber, Input}
 use Rattle.tables.specs.Tables.{inputs, keyOf, cmp}
@@ -14,7 +14,7 @@ use Rattle.inputs.specs.declared.tests.Which.the-variants.{OfDocument, M
 
 -- the rows that stay where those with one of these numbers go
 abbrev pub spares : DocumentNumbers → Input → Bool
-spares gone row = not (oneOf (row .document) (take (gone .count) (gone .rows)))
+spares gone row = not (oneOf (row .document) (documentNumbers gone))
 
 abbrev pub passes : Which → Input → Bool
 passes (OfDocument n) row = sameDocument (row .document) n

@@ -2,7 +2,8 @@
 use mathlib.Core.Path.{_≡_}
 use mathlib.Core.List.{List}
 use Prim.Native.Nat.{ℕ, _+_, _%_, _≤_, _<_}
-use lib.ListN.{getD, take}
+use lib.ListN.{getD}
+use Rattle.types.specs.Lists.{headerPairs}
 use Rattle.tables.specs.Nouns.{Pair, Jar}
 use Rattle.tables.specs.Rows.{jar}
 use Rattle.memory.specs.Rows.{total, Layout, Within, table}
@@ -20,7 +21,7 @@ jarAt p m = jar (table (pairsIn p) m)
 
 -- a header with whatever stood behind its count made blank
 abbrev pub tidy : Jar → Jar
-tidy j = jar (take (j .count) (j .rows))
+tidy j = jar (headerPairs j)
 
 -- a header is written at p, and nothing else changes; nothing at all where there is no room for one
 pub record Wrote (p : ℕ) (j : Jar) (m n : List ℕ) : Type 0 where

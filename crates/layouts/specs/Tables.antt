@@ -13,8 +13,8 @@ abbrev pub documentsIn : Layout Document
 documentsIn = record { base = 161; width = 20; capacity = 64; decode = documentOf }
 
 -- by host and name
-abbrev pub cookiesIn : Layout HostCookie
-cookiesIn = record { base = 1442; width = 7; capacity = 64; decode = hostCookieOf }
+abbrev pub hostCookiesIn : Layout HostCookie
+hostCookiesIn = record { base = 1442; width = 7; capacity = 64; decode = hostCookieOf }
 
 -- by origin
 abbrev pub localIn : Layout LocalValue

@@ -1,19 +1,18 @@
 -- The first row of a window's navigable set.
-use mathlib.Core.Path.{_≡_}
-use mathlib.Core.Bool.{Bool, true}
-use mathlib.Core.List.{List}
-use mathlib.Core.Option.{some}
-use Prim.Native.Nat.{ℕ, _<_}
-use lib.Dec.{ltb}
-use lib.ListN.{length, getD}
-use Rattle.sorted.specs.Table.{find}
-use Rattle.tables.specs.Rows.{originOf}
+use mathlib.Core.Bool.{Bool, cond}
+use mathlib.Core.List.{List, [], _∷_}
+use Prim.Native.Nat.{ℕ, suc}
 use Rattle.wim.specs.Nouns.{WindowNumber, Window, Document}
-use Rattle.wim.specs.Walks.{activeDocument}
-use Rattle.wim.specs.Navigable.{mayNavigate, navigableMask}
+use Rattle.wim.specs.Walks.{activeDocument, isReached}
+use Rattle.wim.specs.Navigable.{mayNavigate, whenDisplayed}
+use Rattle.navigable.specs.declared.First.{First}
+use Rattle.navigable.specs.declared.First.the-variants.{Row, NoRow}
 
--- There is one where the set is not empty; then it is the first whose window the active document of w may navigate.
-pub record FirstRow (ws : List Window) (ds : List Document) (w : WindowNumber) (found : Bool) (row : ℕ) : Type 0 where
-  pub has : found ≡ ltb 0 (navigableMask ws ds w)
-  pub within : found ≡ true → row < length ws
-  pub first : found ≡ true → (d : Document) → activeDocument ds w ≡ some d → (x : Window) → find (λ (r : Window). mayNavigate ws ds (originOf d) w (r .number)) ws ≡ some (getD ws row x)
+-- the first row that passes, counted from i on
+abbrev pub firstFrom : (WindowNumber → Bool) → ℕ → List Window → First
+firstFrom p i [] = NoRow
+firstFrom p i (r ∷ rs) = cond (p (r .number)) (Row i) (firstFrom p (suc i) rs)
+
+-- the first row whose window the active document of w may navigate
+unfoldable pub firstNavigable : List Window → List Document → WindowNumber → First
+firstNavigable ws ds w = whenDisplayed NoRow (isReached ws ds w) (activeDocument ds w) (λ o. firstFrom (mayNavigate ws ds o w) 0 ws)

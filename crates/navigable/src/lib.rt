@@ -16,12 +16,12 @@ ghost use Rattle.memory.specs.Rows.{table};
 ghost use Rattle.layouts.specs.Tables.{windowsIn, documentsIn};
 ghost use Rattle.wim.specs.Walks.{activeDocument, hasOrigin};
 ghost use Rattle.wim.specs.Navigable.{openerOf, ancestorHas, isWindow, navigableDirectly, follows, mayNavigate, maskOf, navigableMask, navigableSize};
-ghost use Rattle.navigable.specs.First.{FirstRow};
+ghost use Rattle.navigable.specs.First.{firstNavigable};
 
-// A row of the windows, if there is one. Where there is none, `row` says nothing.
-pub struct First {
-    pub found: bool,
-    pub row: usize,
+// A row of the windows, counted from 0, if there is one.
+pub enum First {
+    Row(usize),
+    NoRow,
 }
 
 fn has_origin(m: &Memory, o: Origin, w: WindowNumber) -> bool
@@ -176,13 +176,12 @@ pub fn navigable_size(m: &Memory, w: WindowNumber) -> u32
 
 // The first row of the set: as many zeros stand at the end of the number as rows before it.
 pub fn first_navigable(m: &Memory, w: WindowNumber) -> First
-    ensures { λ r. ⌜ FirstRow (table windowsIn (now (m .entry))) (table documentsIn (now (m .entry))) w (r .found) (r .row) ⌝ }
+    ensures { λ r. ⌜ r ≡ firstNavigable (table windowsIn (now (m .entry))) (table documentsIn (now (m .entry))) w ⌝ }
 {
     let bits = navigable_set(m, w);
-    let found = 0 < bits;
-    let row = u32::trailing_zeros(bits) as usize;
-    First {
-        found: found,
-        row: row,
+    if bits == 0 {
+        return First::NoRow;
     }
+    let row = u32::trailing_zeros(bits) as usize;
+    First::Row(row)
 }

@@ -1,6 +1,7 @@
 -- What the promise of `play` comes to.
 --     one-result                       any two results that it allows are the same
 --     over-is-run · stopped-is-run     where nothing follows and the run ended, the lines are the whole run
+--     play-comes                       a run comes from the browser before to the one behind
 --     written-within · reasons         the lines lie within the buffer, and what was played within the text; why no more was played, so that a caller gets on: with more text, or with room for lines
 use mathlib.Core.Path.{_≡_, refl, sym, ap, ap₂, subst, _∙_}
 use mathlib.Core.Bool.{Bool, true, false, cond}
@@ -15,6 +16,8 @@ use Rattle.shapes.specs.Texts.{itemIn}
 use Rattle.sorted.proofs.Never.{never}
 use Rattle.wim.specs.Step.{Browser, Result}
 use Rattle.wim.specs.Run.{performed, lineOf, after, play}
+use Rattle.wim.specs.Made.{RunsTo, begun}
+use Rattle.wim.proofs.Made.{runs-on, runs-then}
 use Rattle.browser.specs.View.{browser}
 use Rattle.playing.specs.declared.looking.Halt.{Halt}
 use Rattle.playing.specs.declared.looking.Halt.the-variants.{Over, Stopped, Hungry, Crowded}
@@ -56,6 +59,20 @@ module _ {text m out : List ℕ} {r : Played} {k out₂ : List ℕ} (u : Plays t
 
 pub written-within : {text : List ℕ} {last : Bool} {m out : List ℕ} {r : Played} {k out₂ : List ℕ} → Plays text last m out r k out₂ → r .written ≤ length out₂
 written-within {text} {last} {m} {out} {r} {k} {out₂} u = let c = u .counted in let l = length-take (r .written) out₂ in omega arith
+
+-- WHERE THE RUN COMES TO.
+portion-comes : (k : ℕ) (s : List ℕ) (last : Bool) (room : ℕ) (b : Browser) → RunsTo b (portionFrom k s last room b .browser)
+unfolding portionFrom
+portion-comes zero s last room b = begun
+portion-comes (suc k) s last room b = go (nextIn s last room) (λ n m c. portion-comes k (drop n s) last m c)
+  where
+    go : (x : Next) → ((n m : ℕ) (c : Browser) → RunsTo c (portionFrom k (drop n s) last m c .browser)) → RunsTo b (playedOn k s last room b x .browser)
+    go (Item n) others = let r : Result = performed (itemIn (take n s)) b in runs-then (runs-on (take n s) begun) (others n (room - length (lineOf r)) (after b r))
+    go (Nothing h) others = begun
+
+pub play-comes : {text : List ℕ} {last : Bool} {m out : List ℕ} {r : Played} {k out₂ : List ℕ} → Plays text last m out r k out₂ → RunsTo (browser m) (browser k)
+unfolding portionOf
+play-comes {text} {last} {m} {out} u = subst (λ (p : Portion). RunsTo (browser m) (p .browser)) (sym (u .tells)) (portion-comes (suc (length text)) text last (length out) (browser m))
 
 -- WHY NO MORE WAS PLAYED.
 pub record Reasons (s : List ℕ) (last : Bool) (room : ℕ) (halt : Halt) (read written : ℕ) : Type 0 where

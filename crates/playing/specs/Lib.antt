@@ -4,3 +4,4 @@ pub mod Turns
 pub mod Portions
 pub mod Plays
 pub mod Keeps
+pub mod Feeds

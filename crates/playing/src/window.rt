@@ -2,6 +2,7 @@
 ghost use Prim.Native.Nat.{_-_, _≤_};
 ghost use lib.ListN.{length};
 ghost use Rattle.playing.specs.Keeps.{Keeps};
+ghost use Rattle.playing.specs.Feeds.{Feeds};
 use crate::looking::Halt;
 use crate::portions::play;
 use libc::STDOUT_FILENO;
@@ -56,7 +57,7 @@ pub fn turn(
     loud: bool,
 ) -> Run
     requires { ⌜ run .held ≤ length (now window) ⌝ }
-    ensures { λ r. ⌜ r .held ≤ length (now (window .exit)) ⌝ }
+    ensures { λ r. ⌜ Feeds (now (m .entry)) (now (window .exit)) (now (m .exit)) (r .held) ⌝ }
 {
     let held = run.held;
     let last = run.last;

@@ -1,8 +1,8 @@
 -- What goes with documents that go, and the tables without it: the same edits as in the programs of `wim`, as functions.
 use mathlib.Core.Bool.{not}
 use mathlib.Core.List.{List, [], _∷_}
-use lib.ListN.{take}
 use Rattle.sorted.specs.Table.{sift}
+use Rattle.types.specs.Lists.{windowNumbers, documentNumbers}
 use Rattle.tables.specs.Tables.{windows, documents, inputs, Tables, apply}
 use Rattle.tables.specs.Rows.{oneOf, windowOneOf}
 use Rattle.wim.specs.Nouns.{WindowNumber, DocumentNumber, Window, Document, Input}
@@ -10,7 +10,7 @@ use Rattle.wim.specs.Walks.{Removal}
 use Rattle.removing.specs.declared.told.Removal.{Removal as Gone}
 
 abbrev pub going : Gone → Removal
-going r = record { windows = take (r .windows .count) (r .windows .rows); documents = take (r .documents .count) (r .documents .rows) }
+going r = record { windows = windowNumbers (r .windows); documents = documentNumbers (r .documents) }
 
 abbrev pub withoutWindows : List WindowNumber → Tables → Tables
 withoutWindows gone = apply windows (sift (λ (r : Window). not (windowOneOf (r .number) gone)) ∷ [])

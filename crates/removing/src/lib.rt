@@ -11,7 +11,7 @@ use types::rows::Document;
 ghost use mathlib.Core.Path.{_≡_};
 ghost use mathlib.Core.Bool.{true, _||_};
 ghost use mathlib.Core.List.{[], _∷_};
-ghost use lib.ListN.{take};
+ghost use Rattle.types.specs.Lists.{windowNumbers, documentNumbers};
 ghost use Rattle.tables.specs.Rows.{oneOf};
 ghost use Rattle.tables.specs.Tables.{windows, documents, inputs};
 ghost use Rattle.memory.specs.Rows.{table};
@@ -35,7 +35,7 @@ fn no_documents() -> DocumentNumbers {
 }
 
 fn windows_under(m: &Memory, gone: DocumentNumbers) -> WindowNumbers
-    ensures { λ r. ⌜ take (r .count) (r .rows) ≡ removal (table windowsIn (now (m .entry))) (table documentsIn (now (m .entry))) (take (gone .count) (gone .rows)) .windows ⌝ }
+    ensures { λ r. ⌜ windowNumbers r ≡ removal (table windowsIn (now (m .entry))) (table documentsIn (now (m .entry))) (documentNumbers gone) .windows ⌝ }
 {
     let n = windows::size(m);
     let mut out = no_windows();
@@ -58,7 +58,7 @@ fn windows_under(m: &Memory, gone: DocumentNumbers) -> WindowNumbers
 
 // A document goes, with those that go or with the window that holds it.
 fn goes(m: &Memory, gone: DocumentNumbers, row: Document) -> bool
-    ensures { λ r. ⌜ r ≡ (oneOf (row .number) (take (gone .count) (gone .rows)) || isUnder steps (table windowsIn (now (m .entry))) (table documentsIn (now (m .entry))) (take (gone .count) (gone .rows)) (row .window)) ⌝ }
+    ensures { λ r. ⌜ r ≡ (oneOf (row .number) (documentNumbers gone) || isUnder steps (table windowsIn (now (m .entry))) (table documentsIn (now (m .entry))) (documentNumbers gone) (row .window)) ⌝ }
 {
     let n = row.number;
     let w = row.window;
@@ -68,7 +68,7 @@ fn goes(m: &Memory, gone: DocumentNumbers, row: Document) -> bool
 }
 
 fn documents_under(m: &Memory, gone: DocumentNumbers) -> DocumentNumbers
-    ensures { λ r. ⌜ take (r .count) (r .rows) ≡ removal (table windowsIn (now (m .entry))) (table documentsIn (now (m .entry))) (take (gone .count) (gone .rows)) .documents ⌝ }
+    ensures { λ r. ⌜ documentNumbers r ≡ removal (table windowsIn (now (m .entry))) (table documentsIn (now (m .entry))) (documentNumbers gone) .documents ⌝ }
 {
     let n = documents::size(m);
     let mut out = no_documents();
@@ -91,7 +91,7 @@ fn documents_under(m: &Memory, gone: DocumentNumbers) -> DocumentNumbers
 
 // What goes when these documents go: they themselves and all windows and documents under them.
 pub fn removal(m: &Memory, gone: DocumentNumbers) -> Removal
-    ensures { λ r. ⌜ going r ≡ removal (table windowsIn (now (m .entry))) (table documentsIn (now (m .entry))) (take (gone .count) (gone .rows)) ⌝ }
+    ensures { λ r. ⌜ going r ≡ removal (table windowsIn (now (m .entry))) (table documentsIn (now (m .entry))) (documentNumbers gone) ⌝ }
 {
     let w = windows_under(m, gone);
     let d = documents_under(m, gone);
@@ -103,7 +103,7 @@ pub fn removal(m: &Memory, gone: DocumentNumbers) -> Removal
 
 // Windows and documents go, and the inputs of these documents.
 pub fn remove(m: &mut Memory, ws: WindowNumbers, ds: DocumentNumbers)
-    ensures { λ r. ⌜ Carries (removed (take (ws .count) (ws .rows)) (take (ds .count) (ds .rows))) [] (windows ∷ documents ∷ inputs ∷ []) (now (m .entry)) (now (m .exit)) true ⌝ }
+    ensures { λ r. ⌜ Carries (removed (windowNumbers ws) (documentNumbers ds)) [] (windows ∷ documents ∷ inputs ∷ []) (now (m .entry)) (now (m .exit)) true ⌝ }
 {
     windows::without(m, ws);
     documents::without(m, ds);

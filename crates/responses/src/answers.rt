@@ -10,14 +10,14 @@ use types::refusals::Missing;
 use types::refusals::Refusal;
 use types::rows::Waiting;
 ghost use mathlib.Core.Option.{some};
-ghost use lib.ListN.{take};
+ghost use Rattle.types.specs.Lists.{cookiesIn};
 ghost use Rattle.wim.specs.Program.{ask, keyless, keyed};
 ghost use Rattle.wim.specs.Main.{encryptedAnswer, plainAnswer};
 ghost use Rattle.stepping.specs.Performs.{Performs};
 
 // A9:61 to 63: found by its number among the requests without a key.
 pub fn plain_answer(m: &mut Memory, a: Answer, few: SetCookies, f: Fresh) -> Performed
-    ensures { λ r. ⌜ Performs (ask (keyless (a .number)) (plainAnswer a (take (few .count) (few .rows)))) f (now (m .entry)) (now (m .exit)) r ⌝ }
+    ensures { λ r. ⌜ Performs (ask (keyless (a .number)) (plainAnswer a (cookiesIn few))) f (now (m .entry)) (now (m .exit)) r ⌝ }
 {
     let n = a.number;
     let found = pending_requests::first(m, pending_requests::Which::KeylessNumber(n));
@@ -30,7 +30,7 @@ pub fn plain_answer(m: &mut Memory, a: Answer, few: SetCookies, f: Fresh) -> Per
 
 // A9:57, 58: what was encrypted for a request must carry its number.
 fn opened(m: &mut Memory, w: Waiting, a: Answer, few: SetCookies, f: Fresh) -> Performed
-    ensures { λ r. ⌜ Performs (encryptedAnswer a (take (few .count) (few .rows)) (some w)) f (now (m .entry)) (now (m .exit)) r ⌝ }
+    ensures { λ r. ⌜ Performs (encryptedAnswer a (cookiesIn few) (some w)) f (now (m .entry)) (now (m .exit)) r ⌝ }
 {
     let q = w.request;
     let n = q.number;
@@ -49,7 +49,7 @@ pub fn encrypted_answer(
     few: SetCookies,
     f: Fresh,
 ) -> Performed
-    ensures { λ r. ⌜ Performs (ask (keyed k) (encryptedAnswer a (take (few .count) (few .rows)))) f (now (m .entry)) (now (m .exit)) r ⌝ }
+    ensures { λ r. ⌜ Performs (ask (keyed k) (encryptedAnswer a (cookiesIn few))) f (now (m .entry)) (now (m .exit)) r ⌝ }
 {
     let found = pending_requests::first(m, pending_requests::Which::HasKey(k));
     if found.found {

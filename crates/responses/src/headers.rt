@@ -7,8 +7,8 @@ use types::rows::StrictHost;
 use types::rows::Waiting;
 ghost use mathlib.Core.Bool.{cond};
 ghost use mathlib.Core.List.{[], _∷_};
-ghost use lib.ListN.{take};
 ghost use Rattle.sorted.specs.Table.{put};
+ghost use Rattle.types.specs.Lists.{cookiesIn};
 ghost use Rattle.tables.specs.Tables.{cookies, pendingRequests, sts, apply};
 ghost use Rattle.stepping.specs.Holds.{Carries};
 ghost use Rattle.responses.specs.Acted.{acted};
@@ -26,7 +26,7 @@ fn put_strict_if(m: &mut Memory, h: Host, there: bool) -> bool
 
 // Cookies with a bad prefix are left out (A8:2 to 4); the header Strict-Transport-Security counts over S alone.
 pub fn act_on_headers(m: &mut Memory, w: Waiting, a: Answer, few: SetCookies) -> bool
-    ensures { λ r. ⌜ Carries (acted w a (take (few .count) (few .rows))) (sts ∷ cookies ∷ []) (pendingRequests ∷ []) (now (m .entry)) (now (m .exit)) r ⌝ }
+    ensures { λ r. ⌜ Carries (acted w a (cookiesIn few)) (sts ∷ cookies ∷ []) (pendingRequests ∷ []) (now (m .entry)) (now (m .exit)) r ⌝ }
 {
     let q = w.request;
     let n = q.number;

@@ -12,8 +12,9 @@ use types::rows::Waiting;
 ghost use mathlib.Core.Path.{_≡_};
 ghost use mathlib.Core.List.{[], _∷_, map};
 ghost use Prim.Native.Nat.{suc};
-ghost use lib.ListN.{take, length};
+ghost use lib.ListN.{length};
 ghost use Rattle.sorted.specs.Table.{looked};
+ghost use Rattle.types.specs.Lists.{documentNumbers};
 ghost use Rattle.tables.specs.Tables.{windows, documents, inputs};
 ghost use Rattle.memory.specs.Rows.{table};
 ghost use Rattle.layouts.specs.Tables.{windowsIn, documentsIn};
@@ -44,7 +45,7 @@ fn place_of(current: documents::Found) -> u32
 
 // The documents of the window v behind the active one.
 fn later_than(m: &Memory, v: WindowNumber, current: documents::Found) -> DocumentNumbers
-    ensures { λ r. ⌜ take (r .count) (r .rows) ≡ map numberOf (laterThan (looked (current .found) (current .row)) (documentsOf (table documentsIn (now (m .entry))) v)) ⌝ }
+    ensures { λ r. ⌜ documentNumbers r ≡ map numberOf (laterThan (looked (current .found) (current .row)) (documentsOf (table documentsIn (now (m .entry))) v)) ⌝ }
 {
     if current.found {
         let place = current.row.place;

@@ -16,7 +16,7 @@ use types::cookies::SetCookies;
 use types::refusals::Refusal;
 use types::rows::Waiting;
 ghost use mathlib.Core.Path.{_≡_};
-ghost use lib.ListN.{take};
+ghost use Rattle.types.specs.Lists.{cookiesIn};
 ghost use Rattle.wim.specs.Response.{processResponse};
 ghost use Rattle.stepping.specs.Performs.{Performs};
 ghost use Rattle.removing.specs.Gone.{going};
@@ -87,7 +87,7 @@ pub fn process_response(
     few: SetCookies,
     f: Fresh,
 ) -> Performed
-    ensures { λ r. ⌜ Performs (processResponse (w .reference) w a (take (few .count) (few .rows))) f (now (m .entry)) (now (m .exit)) r ⌝ }
+    ensures { λ r. ⌜ Performs (processResponse (w .reference) w a (cookiesIn few)) f (now (m .entry)) (now (m .exit)) r ⌝ }
 {
     let reference = w.reference;
     let plan = course_of(m, reference, a);

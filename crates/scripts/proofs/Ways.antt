@@ -2,13 +2,13 @@
 use mathlib.Core.Path.{_≡_, sym, ap}
 use mathlib.Core.List.{List}
 use Prim.Native.Nat.{ℕ}
-use lib.ListN.{take}
 use Rattle.types.specs.declared.cookies.Cookie.{Cookie}
 use Rattle.types.specs.declared.items.Output.{Output}
 use Rattle.types.specs.declared.Fresh.{Fresh}
 use Rattle.types.specs.declared.WindowNumber.{WindowNumber}
 use Rattle.types.specs.declared.rows.HostCookie.{HostCookie}
 use Rattle.sorted.specs.Table.{keep}
+use Rattle.types.specs.Lists.{cookiesIn}
 use Rattle.tables.specs.Tables.{cookies, Tables}
 use Rattle.tables.specs.Labels.{Label}
 use Rattle.tables.specs.Rows.{sameHost}
@@ -29,7 +29,7 @@ use Rattle.scripts.specs.Acting.{acting}
 
 -- THE SCENE: its cookies are those of the host, merged with the script's.
 pub acts : (s : Scene) (new : List Cookie) (f : Fresh) (m n : List ℕ) (r : Performed)
-    → take (s .merged .count) (s .merged .rows) ≡ cookieMerge (keep (λ (c : HostCookie). sameHost (c .host) (s .document .location .host)) (view m cookies)) new (s .document .location .protocol)
+    → cookiesIn (s .merged) ≡ cookieMerge (keep (λ (c : HostCookie). sameHost (c .host) (s .document .location .host)) (view m cookies)) new (s .document .location .protocol)
     → Performs (command (s .window) (s .document) (storing s) (s .output .command)) f m n r
     → Performs (acting (s .window) (s .output) new (s .top) (s .document)) f m n r
 unfolding run observed

@@ -12,7 +12,7 @@ use types::cookies::SetCookies;
 use types::items::Output;
 use types::refusals::Refusal;
 use types::rows::Document;
-ghost use lib.ListN.{take};
+ghost use Rattle.types.specs.Lists.{cookiesIn};
 ghost use Rattle.wim.specs.Script.{command, runScript};
 ghost use Rattle.stepping.specs.Performs.{Performs};
 ghost use Rattle.storing.specs.Stored.{storing};
@@ -57,7 +57,7 @@ fn act(
     new: SetCookies,
     f: Fresh,
 ) -> Performed
-    ensures { λ r. ⌜ Performs (acting w out (take (new .count) (new .rows)) top d) f (now (m .entry)) (now (m .exit)) r ⌝ }
+    ensures { λ r. ⌜ Performs (acting w out (cookiesIn new) top d) f (now (m .entry)) (now (m .exit)) r ⌝ }
 {
     let url = d.location;
     let h = url.host;
@@ -80,7 +80,7 @@ pub fn run_script(
     new: SetCookies,
     f: Fresh,
 ) -> Performed
-    ensures { λ r. ⌜ Performs (runScript w out (take (new .count) (new .rows))) f (now (m .entry)) (now (m .exit)) r ⌝ }
+    ensures { λ r. ⌜ Performs (runScript w out (cookiesIn new)) f (now (m .entry)) (now (m .exit)) r ⌝ }
 {
     let s = history::displayed(m, w);
     match s {

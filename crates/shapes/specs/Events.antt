@@ -3,10 +3,10 @@ use mathlib.Core.Bool.{cond}
 use mathlib.Core.List.{List, []}
 use mathlib.Core.Option.{Option, none, some}
 use Prim.Native.Nat.{ℕ}
-use lib.ListN.{take}
 use Rattle.csexp.specs.Text.{text}
 use Rattle.csexp.specs.Term.{Term, atom, list, Terms, nil, cons, write}
 use Rattle.csexp.specs.Encode.{numberTerm, optionalTerm, each, labelled, joins}
+use Rattle.types.specs.Lists.{headerPairs}
 use Rattle.shapes.specs.Nouns.{Host, Address, DnsNumber, KeyNumber, Protocol, Plain, Secure, Fragment, Absent, Named, Url, Origin, CookieName, Pair, Jar, Method, OriginHeader, Unsent, Null, From, Referrer, Unknown, Known, Request, Sent, Silence, Resolve, Open, Sealed}
 use Rattle.shapes.specs.Words.{spelling}
 
@@ -44,7 +44,7 @@ pairTerm p = list (cons (nameTerm (p .name)) (cons (numberTerm (p .value .0)) ni
 
 -- (6:Cookie (pair ..))
 abbrev pub cookieHeader : Jar → Term
-cookieHeader j = list (cons (atom (text "Cookie")) (cons (list (each pairTerm (take (j .count) (j .rows)))) nil))
+cookieHeader j = list (cons (atom (text "Cookie")) (cons (list (each pairTerm (headerPairs j))) nil))
 
 -- (host protocol)
 abbrev pub originTerm : Origin → Term

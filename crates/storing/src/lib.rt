@@ -18,29 +18,29 @@ use types::rows::SessionValue;
 ghost use mathlib.Core.Path.{_≡_};
 ghost use mathlib.Core.Bool.{not};
 ghost use mathlib.Core.List.{[], _∷_};
-ghost use lib.ListN.{take};
 ghost use Rattle.types.specs.declared.cookies.Cookie.{Cookie};
 ghost use Rattle.types.specs.declared.rows.HostCookie.{HostCookie};
 ghost use Rattle.sorted.specs.Table.{keep};
+ghost use Rattle.types.specs.Lists.{cookiesIn};
 ghost use Rattle.tables.specs.Tables.{cookies, localStorage, sessionStorage, apply};
 ghost use Rattle.tables.specs.Rows.{sameHost};
 ghost use Rattle.wim.specs.Cookies.{badPrefix, guarded, cookieMerge, storeAll};
 ghost use Rattle.wim.specs.Script.{storeLocal, storeSession};
 ghost use Rattle.memory.specs.Rows.{table};
-ghost use Rattle.layouts.specs.Tables.{cookiesIn, inputsIn};
+ghost use Rattle.layouts.specs.Tables.{hostCookiesIn, inputsIn};
 ghost use Rattle.stepping.specs.Holds.{Carries};
 ghost use Rattle.storing.specs.Next.{nextInput};
 
 // Whether the host has an httpOnly cookie with the same name.
 fn is_guarded(m: &Memory, h: Host, c: Cookie) -> bool
-    ensures { λ r. ⌜ r ≡ guarded (keep (λ (o : HostCookie). sameHost (o .host) h) (table cookiesIn (now (m .entry)))) c ⌝ }
+    ensures { λ r. ⌜ r ≡ guarded (keep (λ (o : HostCookie). sameHost (o .host) h) (table hostCookiesIn (now (m .entry)))) c ⌝ }
 {
     let name = c.name;
     cookies::first(m, cookies::Which::Guards(h, name)).found
 }
 
 fn unguarded(m: &Memory, h: Host, few: SetCookies) -> SetCookies
-    ensures { λ r. ⌜ take (r .count) (r .rows) ≡ keep (λ (c : Cookie). not (guarded (keep (λ (o : HostCookie). sameHost (o .host) h) (table cookiesIn (now (m .entry)))) c)) (take (few .count) (few .rows)) ⌝ }
+    ensures { λ r. ⌜ cookiesIn r ≡ keep (λ (c : Cookie). not (guarded (keep (λ (o : HostCookie). sameHost (o .host) h) (table hostCookiesIn (now (m .entry)))) c)) (cookiesIn few) ⌝ }
 {
     let n = sorted::used(few.count, setting::FEW);
     let mut u = few;
@@ -62,7 +62,7 @@ fn unguarded(m: &Memory, h: Host, few: SetCookies) -> SetCookies
 
 // Definition 36: which of a script's cookies are stored, where h is the host of the script's document.
 pub fn merge(m: &Memory, h: Host, few: SetCookies, p: Protocol) -> SetCookies
-    ensures { λ r. ⌜ take (r .count) (r .rows) ≡ cookieMerge (keep (λ (o : HostCookie). sameHost (o .host) h) (table cookiesIn (now (m .entry)))) (take (few .count) (few .rows)) p ⌝ }
+    ensures { λ r. ⌜ cookiesIn r ≡ cookieMerge (keep (λ (o : HostCookie). sameHost (o .host) h) (table hostCookiesIn (now (m .entry)))) (cookiesIn few) p ⌝ }
 {
     let new = setting::permitted(few, true, p);
     let last = setting::latest(new);
@@ -71,14 +71,14 @@ pub fn merge(m: &Memory, h: Host, few: SetCookies, p: Protocol) -> SetCookies
 
 // Definition 37: which of an answer's cookies are stored.
 pub fn taken(few: SetCookies, p: Protocol) -> SetCookies
-    ensures { λ r. ⌜ take (r .count) (r .rows) ≡ keep (λ (c : Cookie). not (badPrefix p c)) (take (few .count) (few .rows)) ⌝ }
+    ensures { λ r. ⌜ cookiesIn r ≡ keep (λ (c : Cookie). not (badPrefix p c)) (cookiesIn few) ⌝ }
 {
     setting::permitted(few, false, p)
 }
 
 // The cookies of one host, one after the other.
 pub fn put_cookies(m: &mut Memory, h: Host, few: SetCookies) -> bool
-    ensures { λ r. ⌜ Carries (apply cookies (storeAll h (take (few .count) (few .rows)))) (cookies ∷ []) [] (now (m .entry)) (now (m .exit)) r ⌝ }
+    ensures { λ r. ⌜ Carries (apply cookies (storeAll h (cookiesIn few))) (cookies ∷ []) [] (now (m .entry)) (now (m .exit)) r ⌝ }
 {
     cookies::put_all(m, h, few)
 }

@@ -4,8 +4,9 @@ use types::cookies::Cookie;
 use types::cookies::CookieName;
 use types::cookies::SetCookies;
 ghost use mathlib.Core.Path.{_≡_};
-ghost use lib.ListN.{take, drop};
+ghost use lib.ListN.{drop};
 ghost use Rattle.sorted.specs.Table.{keep};
+ghost use Rattle.types.specs.Lists.{cookiesIn};
 ghost use Rattle.wim.specs.Cookies.{badPrefix, named, latest};
 ghost use Rattle.storing.specs.Setting.{maySet};
 
@@ -31,7 +32,7 @@ fn may_set(script: bool, p: Protocol, c: Cookie) -> bool
 
 // Those that a script, or an answer, may set at all.
 pub fn permitted(few: SetCookies, script: bool, p: Protocol) -> SetCookies
-    ensures { λ r. ⌜ take (r .count) (r .rows) ≡ keep (maySet script p) (take (few .count) (few .rows)) ⌝ }
+    ensures { λ r. ⌜ cookiesIn r ≡ keep (maySet script p) (cookiesIn few) ⌝ }
 {
     let n = sorted::used(few.count, FEW);
     let mut u = few;
@@ -53,7 +54,7 @@ pub fn permitted(few: SetCookies, script: bool, p: Protocol) -> SetCookies
 
 // Whether one of the cookies has a name, from one place on.
 fn named_from(few: SetCookies, from: usize, name: CookieName) -> bool
-    ensures { λ r. ⌜ r ≡ named name (drop from (take (few .count) (few .rows))) ⌝ }
+    ensures { λ r. ⌜ r ≡ named name (drop from (cookiesIn few)) ⌝ }
 {
     let n = sorted::used(few.count, FEW);
     let mut i = from;
@@ -70,7 +71,7 @@ fn named_from(few: SetCookies, from: usize, name: CookieName) -> bool
 
 // Of each name the cookie that stands last.
 pub fn latest(few: SetCookies) -> SetCookies
-    ensures { λ r. ⌜ take (r .count) (r .rows) ≡ latest (take (few .count) (few .rows)) ⌝ }
+    ensures { λ r. ⌜ cookiesIn r ≡ latest (cookiesIn few) ⌝ }
 {
     let n = sorted::used(few.count, FEW);
     let mut u = few;

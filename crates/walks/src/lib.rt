@@ -12,8 +12,8 @@ use types::WindowNumber;
 use types::rows::Document;
 use types::rows::Parent;
 ghost use mathlib.Core.Path.{_≡_};
-ghost use lib.ListN.{take};
 ghost use Rattle.sorted.specs.Table.{looked};
+ghost use Rattle.types.specs.Lists.{documentNumbers};
 ghost use Rattle.tables.specs.Rows.{originOf};
 ghost use Rattle.memory.specs.Rows.{table};
 ghost use Rattle.layouts.specs.Tables.{windowsIn, documentsIn};
@@ -189,7 +189,7 @@ pub fn listening(m: &Memory, n: DocumentNumber) -> documents::Found
 
 // Whether one of these documents stands above a window, n steps up at most.
 fn under_within(n: u32, m: &Memory, gone: DocumentNumbers, w: WindowNumber) -> bool
-    ensures { λ r. ⌜ r ≡ isUnder n (table windowsIn (now (m .entry))) (table documentsIn (now (m .entry))) (take (gone .count) (gone .rows)) w ⌝ }
+    ensures { λ r. ⌜ r ≡ isUnder n (table windowsIn (now (m .entry))) (table documentsIn (now (m .entry))) (documentNumbers gone) w ⌝ }
 {
     if n == 0 {
         return false;
@@ -210,7 +210,7 @@ fn under_within(n: u32, m: &Memory, gone: DocumentNumbers, w: WindowNumber) -> b
 }
 
 pub fn is_under(m: &Memory, gone: DocumentNumbers, w: WindowNumber) -> bool
-    ensures { λ r. ⌜ r ≡ isUnder steps (table windowsIn (now (m .entry))) (table documentsIn (now (m .entry))) (take (gone .count) (gone .rows)) w ⌝ }
+    ensures { λ r. ⌜ r ≡ isUnder steps (table windowsIn (now (m .entry))) (table documentsIn (now (m .entry))) (documentNumbers gone) w ⌝ }
 {
     under_within(STEPS, m, gone, w)
 }

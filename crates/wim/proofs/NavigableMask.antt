@@ -27,7 +27,7 @@ module _ (ws : List Window) (ds : List Document) (w : WindowNumber) where
   navigable-ones = go (isReached ws ds w) (activeDocument ds w)
     where
       go : (b : Bool) (a : Option Document)
-          → ones (whenDisplayed b a (λ o. maskOf (mayNavigate ws ds o w) ws)) ≡ whenDisplayed b a (λ o. length (keep (λ (r : Window). mayNavigate ws ds o w (r .number)) ws))
+          → ones (whenDisplayed 0 b a (λ o. maskOf (mayNavigate ws ds o w) ws)) ≡ whenDisplayed 0 b a (λ o. length (keep (λ (r : Window). mayNavigate ws ds o w (r .number)) ws))
       go false a = refl
       go true none = refl
       go true (some d) = mask-ones (mayNavigate ws ds (originOf d) w) ws
@@ -63,7 +63,7 @@ module _ (ws : List Window) (ds : List Document) (w : WindowNumber) where
   unfolding navigableMask
   undocumented-none e = go (isReached ws ds w) (activeDocument ds w) e
     where
-      go : (b : Bool) (a : Option Document) → a ≡ none → whenDisplayed b a (λ o. maskOf (mayNavigate ws ds o w) ws) ≡ 0
+      go : (b : Bool) (a : Option Document) → a ≡ none → whenDisplayed 0 b a (λ o. maskOf (mayNavigate ws ds o w) ws) ≡ 0
       go false a e = refl
       go true none e = refl
       go true (some d) e = never (cc)

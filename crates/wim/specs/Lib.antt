@@ -10,6 +10,7 @@ pub mod Script
 pub mod Response
 pub mod Main
 pub mod Step
+pub mod Made
 pub mod Shown
 pub mod LocalSteps
 pub mod Ranges

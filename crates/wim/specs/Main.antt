@@ -3,13 +3,13 @@ use mathlib.Core.Bool.{false, not}
 use mathlib.Core.List.{List, [], _∷_}
 use mathlib.Core.Option.{Option, none, some}
 use lib.Dec.{eqb}
-use lib.ListN.{take}
+pub use Rattle.types.specs.Lists.{cookiesIn}
 use Rattle.sorted.specs.Table.{put, drop, sift}
 use Rattle.tables.specs.Tables.{windows, documents, cookies, sessionStorage, inputs, pendingDNS, pendingRequests, keyOf}
 use Rattle.tables.specs.Labels.{window, key}
 use Rattle.shapes.specs.Events.{unsealed, sealed}
 use Rattle.tables.specs.Rows.{sameHost}
-use Rattle.wim.specs.Nouns.{WindowNumber, Address, Protocol, Plain, Secure, Url, Cookie, SetCookies, Get, Unsent, Referrer, Unknown, Unset, Reference, Req, Bare, Sending, Seal, Keyless, Keyed, Target, NewWindow, Existing, Answer, DnsAnswer, Event, RunScript, Urlbar, Reload, GoForward, GoBack, CloseCorrupt, EncryptedAnswer, PlainAnswer, DnsResolved, Nobody, Document, HostCookie, Question, Waiting, NoWindow, NoDocument, NoQuestion, NoRequest, Mismatch}
+use Rattle.wim.specs.Nouns.{WindowNumber, Address, Protocol, Plain, Secure, Url, Cookie, Get, Unsent, Referrer, Unknown, Unset, Reference, Req, Bare, Sending, Seal, Keyless, Keyed, Target, NewWindow, Existing, Answer, DnsAnswer, Event, RunScript, Urlbar, Reload, GoForward, GoBack, CloseCorrupt, EncryptedAnswer, PlainAnswer, DnsResolved, Nobody, Document, HostCookie, Question, Waiting, NoWindow, NoDocument, NoQuestion, NoRequest, Mismatch}
 use Rattle.wim.specs.Program.{Program, ask, edit, bring, done, reached, topLevel, active, question, keyless, keyed, needs, refuseUnless, _>>=_, _>>_}
 use Rattle.wim.specs.Sending.{cancelNav, send}
 use Rattle.wim.specs.History.{navBack, navForward}
@@ -112,10 +112,6 @@ resolved a found = do
   q ← needs NoQuestion found  -- 65
   refuseUnless (sameHost (a .host) (q .request .host)) Mismatch  -- 65
   goOut (q .url .protocol) q (a .address)
-
--- the cookies that an item brings, of a script or of an answer
-abbrev pub cookiesIn : SetCookies → List Cookie
-cookiesIn cs = take (cs .count) (cs .rows)
 
 -- ALGORITHM 9.
 unfoldable pub program : Event → List Cookie → Program

@@ -78,13 +78,13 @@ maskOf p [] = 0
 maskOf p (r ∷ rs) = bit (p (r .number)) + 2 * maskOf p rs
 
 -- "The set of an unreached window" and of one without a document "is 0".
-abbrev pub whenDisplayed : Bool → Option Document → (Origin → ℕ) → ℕ
-whenDisplayed false d f = 0
-whenDisplayed true none f = 0
-whenDisplayed true (some d) f = f (originOf d)
+abbrev pub whenDisplayed : {A : Type 0} → A → Bool → Option Document → (Origin → A) → A
+whenDisplayed {A} x false d f = x
+whenDisplayed {A} x true none f = x
+whenDisplayed {A} x true (some d) f = f (originOf d)
 
 unfoldable pub navigableMask : List Window → List Document → WindowNumber → ℕ
-navigableMask ws ds w = whenDisplayed (isReached ws ds w) (activeDocument ds w) (λ o. maskOf (mayNavigate ws ds o w) ws)
+navigableMask ws ds w = whenDisplayed 0 (isReached ws ds w) (activeDocument ds w) (λ o. maskOf (mayNavigate ws ds o w) ws)
 
 unfoldable pub navigableSize : List Window → List Document → WindowNumber → ℕ
-navigableSize ws ds w = whenDisplayed (isReached ws ds w) (activeDocument ds w) (λ o. length (keep (λ (r : Window). mayNavigate ws ds o w (r .number)) ws))
+navigableSize ws ds w = whenDisplayed 0 (isReached ws ds w) (activeDocument ds w) (λ o. length (keep (λ (r : Window). mayNavigate ws ds o w (r .number)) ws))

@@ -1,8 +1,8 @@
 -- What the tests of Which mean, and what else the contracts say. Written by tools/tables.py.
 use mathlib.Core.Bool.{Bool, not}
-use lib.ListN.{take}
 use Rattle.sorted.specs.declared.Order.{Order}
 use Rattle.sorted.specs.Order.{same}
+use Rattle.types.specs.Lists.{windowNumbers}
 use Rattle.types.specs.declared.WindowNumbers.{WindowNumbers}
 use Rattle.types.specs.declared.WindowNumber.{WindowNumber}
 use Rattle.tables.specs.Nouns.{Window}
@@ -15,7 +15,7 @@ use Rattle.windows.specs.declared.tests.Which.the-variants.{KeyIs, Menti
 
 -- the rows that stay where those with one of these numbers go
 abbrev pub spares : WindowNumbers → Window → Bool
-spares gone row = not (windowOneOf (row .number) (take (gone .count) (gone .rows)))
+spares gone row = not (windowOneOf (row .number) (windowNumbers gone))
 
 abbrev pub passes : Which → Window → Bool
 passes (KeyIs number) row = same (cmp windows (number .0) (keyOf windows row))

@@ -4,11 +4,12 @@ use mathlib.Core.Bool.{Bool, true, false, cond}
 use mathlib.Core.Option.{Option, none, some}
 use Prim.Native.Nat.{_*_, _≤_}
 use native.Mathlib.Omega.{arith}
-use lib.ListN.{length, take}
+use lib.ListN.{length}
 use Rattle.csexp.specs.Text.{text}
 use Rattle.csexp.specs.Term.{decimal, digits, write}
 use Rattle.csexp.specs.Encode.{numberTerm, labelled}
 use Rattle.csexp.proofs.write.Bounds.{Short, Shorts, short-list, short-nil, short-cons, short-joins, short-less, shorts-less, short-word, short-number, short-optional, short-labelled, short-each}
+use Rattle.types.specs.Lists.{headerPairs}
 use Rattle.shapes.specs.Nouns.{Host, DnsNumber, KeyNumber, Protocol, Plain, Secure, Fragment, Absent, Named, Url, CookieName, Pair, Method, Get, Head, Post, Put, Delete, Connect, Options, Trace, OriginHeader, Unsent, Null, From, Referrer, Unknown, Known, Request}
 use Rattle.shapes.specs.Events.{protocolTerm, fragmentTerm, urlTerm, methodTerm, nameTerm, pairTerm, cookieHeader, originHeader, refererHeader, requestTerm, sealedTerm, questionTerm, Message, resolve, unsealed, sealed, eventOf, eventText}
 use Rattle.writing.specs.Sized.{Small, FragmentSmall, UrlSmall, PairSmall, OriginSmall, ReferrerSmall, RequestSmall, MessageSmall, AnySmall}
@@ -61,7 +62,7 @@ short-cookies : (q : Request) → RequestSmall q → Short (cookieHeader (q .coo
 unfolding write decimal digits
 short-cookies q i =
     let few = i .few in
-    let most : length (take (q .cookies .count) (q .cookies .rows)) * 38 ≤ 2432 = omega arith in
+    let most : length (headerPairs (q .cookies)) * 38 ≤ 2432 = omega arith in
     short-list (short-cons (short-word _) (short-cons (short-list (shorts-less 2432 (short-each pairTerm 38 short-pair (i .pairs)) most)) short-nil))
 
 short-origin : (o : OriginHeader) → OriginSmall o → Shorts (originHeader o) 28

@@ -1,8 +1,9 @@
 -- The numbers of a message have at most 32 bits, and its cookies are at most 64, as in every value that the code can hold: then its text is short.
 use mathlib.Core.Option.{Option, none, some}
 use Prim.Native.Nat.{ℕ, _≤_}
-use lib.ListN.{length, take}
+use lib.ListN.{length}
 use Rattle.csexp.proofs.write.Backs.{Each}
+use Rattle.types.specs.Lists.{headerPairs}
 use Rattle.shapes.specs.Nouns.{Fragment, Absent, Named, Url, Pair, OriginHeader, Unsent, Null, From, Referrer, Unknown, Known, Request}
 use Rattle.shapes.specs.Words.{most32}
 use Rattle.shapes.specs.Events.{Message, resolve, unsealed, sealed}
@@ -38,8 +39,8 @@ pub record RequestSmall (q : Request) : Type 0 where
   pub host : Small (q .host .0)
   pub path : Small (q .path .0)
   pub parameters : Small (q .parameters .0)
-  pub few : length (take (q .cookies .count) (q .cookies .rows)) ≤ 64
-  pub pairs : Each PairSmall (take (q .cookies .count) (q .cookies .rows))
+  pub few : length (headerPairs (q .cookies)) ≤ 64
+  pub pairs : Each PairSmall (headerPairs (q .cookies))
   pub origin : OriginSmall (q .origin)
   pub referrer : ReferrerSmall (q .referrer)
   pub body : Small (q .body .0)

@@ -7,9 +7,9 @@ use csexp::write::open_word;
 use types::cookies::CookieName;
 use types::cookies::Jar;
 use types::cookies::Pair;
-ghost use lib.ListN.{take};
 ghost use Rattle.csexp.specs.Encode.{each};
 ghost use Rattle.csexp.specs.Puts.{Writes, Items};
+ghost use Rattle.types.specs.Lists.{headerPairs};
 ghost use Rattle.shapes.specs.Events.{nameTerm, pairTerm, cookieHeader};
 
 // A number, or (6:__Host number)
@@ -36,7 +36,7 @@ pub fn write_pair(out: &mut [u8], at: usize, pair: Pair) -> usize
 
 // The first `count` pairs, one behind the other; a count beyond 64 is read as 64.
 pub fn pair_items(out: &mut [u8], at: usize, jar: Jar) -> usize
-    ensures { λ r. ⌜ Items (each pairTerm (take (jar .count) (jar .rows))) (now (out .entry)) at (now (out .exit)) r ⌝ }
+    ensures { λ r. ⌜ Items (each pairTerm (headerPairs jar)) (now (out .entry)) at (now (out .exit)) r ⌝ }
 {
     let rows = jar.rows;
     let count = jar.count;

@@ -4,12 +4,12 @@ use Prim.Native.Nat.{_-_}
 use native.Mathlib.Omega.{arith}
 use Rattle.memory.proofs.Loops.{Looking, look-start, look-next, look-hit, look-end}
 use Rattle.cookies.specs.Which.{passes}
-use Rattle.layouts.specs.Tables.{cookiesIn}
+use Rattle.layouts.specs.Tables.{hostCookiesIn}
 use Rattle.cookies.proofs.first.Statement.{statement}
 use Rattle.cookies.proofs.first.Tie as tie
 
 abbrev Inv-loop : tie.InvT-loop
-Inv-loop m q n i₀ i = Looking cookiesIn (passes q) m n i
+Inv-loop m q n i₀ i = Looking hostCookiesIn (passes q) m n i
 
 abbrev μ-loop : tie.MeasureT-loop
 μ-loop m q n i₀ i = n - i

@@ -5,12 +5,12 @@ use native.Mathlib.Omega.{arith}
 use Rattle.memory.proofs.Loops.{Sifting, sift-start, sift-drops, sift-keeps, sift-end}
 use Rattle.memory.proofs.Staying.{sift-stays}
 use Rattle.cookies.specs.Which.{passes}
-use Rattle.layouts.specs.Tables.{cookiesIn}
+use Rattle.layouts.specs.Tables.{hostCookiesIn}
 use Rattle.cookies.proofs.keep.Statement.{statement}
 use Rattle.cookies.proofs.keep.Tie as tie
 
 abbrev Inv-loop : tie.InvT-loop
-Inv-loop m₀ q n j₀ i₀ m j i = Sifting cookiesIn (passes q) m₀ m n i j
+Inv-loop m₀ q n j₀ i₀ m j i = Sifting hostCookiesIn (passes q) m₀ m n i j
 
 abbrev μ-loop : tie.MeasureT-loop
 μ-loop m₀ q n j₀ i₀ m j i = n - i

@@ -5,12 +5,12 @@ use native.Mathlib.Omega.{arith}
 use Rattle.sorted.specs.Order.{same, after}
 use Rattle.memory.proofs.Loops.{Searching, search-start, search-next, search-hit, search-end}
 use Rattle.cookies.specs.Which.{keyStands}
-use Rattle.layouts.specs.Tables.{cookiesIn}
+use Rattle.layouts.specs.Tables.{hostCookiesIn}
 use Rattle.cookies.proofs.seek.Statement.{statement}
 use Rattle.cookies.proofs.seek.Tie as tie
 
 abbrev Inv-loop : tie.InvT-loop
-Inv-loop m host prefixed number n i₀ i = Searching cookiesIn (keyStands host prefixed number) m n i
+Inv-loop m host prefixed number n i₀ i = Searching hostCookiesIn (keyStands host prefixed number) m n i
 
 abbrev μ-loop : tie.MeasureT-loop
 μ-loop m host prefixed number n i₀ i = n - i

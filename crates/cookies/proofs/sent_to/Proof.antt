@@ -7,12 +7,12 @@ use Rattle.memory.proofs.Picking.{Picking, pick-start, pick-skips, pick-takes, 
 use Rattle.tables.specs.Nouns.{Jar}
 use Rattle.tables.specs.Rows.{pairOf, blankPair, jar}
 use Rattle.cookies.specs.Which.{goesTo}
-use Rattle.layouts.specs.Tables.{cookiesIn}
+use Rattle.layouts.specs.Tables.{hostCookiesIn}
 use Rattle.cookies.proofs.sent_to.Statement.{statement}
 use Rattle.cookies.proofs.sent_to.Tie as tie
 
 abbrev Inv-loop : tie.InvT-loop
-Inv-loop m h p n out₀ j₀ i₀ out j i = Picking cookiesIn (goesTo h p) pairOf blankPair m n (out .rows) i j
+Inv-loop m h p n out₀ j₀ i₀ out j i = Picking hostCookiesIn (goesTo h p) pairOf blankPair m n (out .rows) i j
 
 abbrev μ-loop : tie.MeasureT-loop
 μ-loop m h p n out₀ j₀ i₀ out j i = n - i

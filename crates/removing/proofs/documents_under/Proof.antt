@@ -4,8 +4,8 @@ use mathlib.Core.Path.{sym, _∙_}
 use mathlib.Core.Bool.{Bool, _||_}
 use mathlib.Core.List.{List}
 use native.Mathlib.Omega.{arith}
-use lib.ListN.{take}
 use Rattle.sorted.proofs.Count.{mapped}
+use Rattle.types.specs.Lists.{documentNumbers}
 use Rattle.tables.specs.Rows.{oneOf}
 use Rattle.memory.specs.Rows.{table}
 use Rattle.memory.proofs.Picking.{Gathering, gather-start, gather-skips, gather-takes, gather-end, gather-below}
@@ -19,7 +19,7 @@ abbrev leaves : List Window → List Document → List DocumentNumber → Docume
 leaves ws ds gone d = oneOf (d .number) gone || isUnder steps ws ds gone (d .window)
 
 abbrev Inv-loop : tie.InvT-loop
-Inv-loop m gone n out₀ j₀ i₀ out j i = Gathering documentsIn (leaves (table windowsIn m) (table documentsIn m) (take (gone .count) (gone .rows))) (λ (d : Document). d .number) m n (out .rows) i j
+Inv-loop m gone n out₀ j₀ i₀ out j i = Gathering documentsIn (leaves (table windowsIn m) (table documentsIn m) (documentNumbers gone)) (λ (d : Document). d .number) m n (out .rows) i j
 
 abbrev μ-loop : tie.MeasureT-loop
 μ-loop m gone n out₀ j₀ i₀ out j i = n - i

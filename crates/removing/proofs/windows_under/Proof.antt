@@ -4,8 +4,8 @@ use mathlib.Core.Path.{sym, _∙_}
 use mathlib.Core.Bool.{Bool}
 use mathlib.Core.List.{List}
 use native.Mathlib.Omega.{arith}
-use lib.ListN.{take}
 use Rattle.sorted.proofs.Count.{mapped}
+use Rattle.types.specs.Lists.{documentNumbers}
 use Rattle.memory.specs.Rows.{table}
 use Rattle.memory.proofs.Picking.{Gathering, gather-with-room, gather-skips, gather-takes, gather-end, gather-below}
 use Rattle.layouts.specs.Tables.{windowsIn, documentsIn}
@@ -18,7 +18,7 @@ abbrev hangs : List Window → List Document → List DocumentNumber → Window 
 hangs ws ds gone r = isUnder steps ws ds gone (r .number)
 
 abbrev Inv-loop : tie.InvT-loop
-Inv-loop m gone n out₀ j₀ i₀ out j i = Gathering windowsIn (hangs (table windowsIn m) (table documentsIn m) (take (gone .count) (gone .rows))) (λ (r : Window). r .number) m n (out .rows) i j
+Inv-loop m gone n out₀ j₀ i₀ out j i = Gathering windowsIn (hangs (table windowsIn m) (table documentsIn m) (documentNumbers gone)) (λ (r : Window). r .number) m n (out .rows) i j
 
 abbrev μ-loop : tie.MeasureT-loop
 μ-loop m gone n out₀ j₀ i₀ out j i = n - i

@@ -6,6 +6,7 @@ use types::WindowNumbers;
 ghost use mathlib.Core.Path.{_≡_};
 ghost use mathlib.Core.List.{_∷_, map};
 ghost use lib.ListN.{take};
+ghost use Rattle.types.specs.Lists.{windowNumbers};
 ghost use Rattle.tables.specs.Tables.{windows, cap};
 ghost use Rattle.wim.specs.Walks.{documentsOf, removal};
 ghost use Rattle.wim.specs.Script.{withWindow};
@@ -32,7 +33,7 @@ fn at_front(ws: WindowNumbers, v: WindowNumber) -> WindowNumbers
 
 // The windows that there may be, and v.
 fn and_window(ws: WindowNumbers, v: WindowNumber) -> WindowNumbers
-    ensures { λ r. ⌜ take (r .count) (r .rows) ≡ v ∷ take (cap windows) (take (ws .count) (ws .rows)) ⌝ }
+    ensures { λ r. ⌜ windowNumbers r ≡ v ∷ take (cap windows) (windowNumbers ws) ⌝ }
 {
     let mut u = at_front(ws, v);
     let n = sorted::used(ws.count, windows::WINDOWS);

@@ -7,7 +7,7 @@ use Rattle.sorted.specs.Table.{keep}
 use Rattle.tables.specs.Rows.{sameHost}
 use Rattle.wim.specs.Cookies.{latest, guarded, cookieMerge}
 use Rattle.memory.specs.Rows.{table}
-use Rattle.layouts.specs.Tables.{cookiesIn}
+use Rattle.layouts.specs.Tables.{hostCookiesIn}
 use Rattle.storing.proofs.merge.Statement.{statement}
 use Rattle.storing.proofs.merge.Tie as tie
 
@@ -16,7 +16,7 @@ unfolding cookieMerge
 returns c =
     let a = c .before .before .before .args in
     c .unguarded .ensures
-    ∙ ap (keep (λ (x : Cookie). not (guarded (keep (λ (o : HostCookie). sameHost (o .host) (a .h)) (table cookiesIn (a .m .now))) x)))
+    ∙ ap (keep (λ (x : Cookie). not (guarded (keep (λ (o : HostCookie). sameHost (o .host) (a .h)) (table hostCookiesIn (a .m .now))) x)))
     (c .before .latest .ensures ∙ ap latest (c .before .before .permitted .ensures))
 
 pub merge-spec : {M : Type 1} → statement M

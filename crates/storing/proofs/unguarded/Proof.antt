@@ -11,12 +11,12 @@ use Rattle.sorted.proofs.Keep.{Keeping, keep-start, keep-drops, keep-keeps, kee
 use Rattle.tables.specs.Rows.{sameHost}
 use Rattle.wim.specs.Cookies.{guarded}
 use Rattle.memory.specs.Rows.{table}
-use Rattle.layouts.specs.Tables.{cookiesIn}
+use Rattle.layouts.specs.Tables.{hostCookiesIn}
 use Rattle.storing.proofs.unguarded.Statement.{statement}
 use Rattle.storing.proofs.unguarded.Tie as tie
 
 abbrev Inv-loop : tie.InvT-loop
-Inv-loop m h n u₀ j₀ i₀ u j i = Keeping (λ (c : Cookie). not (guarded (keep (λ (o : HostCookie). sameHost (o .host) h) (table cookiesIn m)) c)) (u₀ .count) 4 n (u₀ .rows) (u .rows) i j
+Inv-loop m h n u₀ j₀ i₀ u j i = Keeping (λ (c : Cookie). not (guarded (keep (λ (o : HostCookie). sameHost (o .host) h) (table hostCookiesIn m)) c)) (u₀ .count) 4 n (u₀ .rows) (u .rows) i j
 
 abbrev μ-loop : tie.MeasureT-loop
 μ-loop m h n u₀ j₀ i₀ u j i = n - i

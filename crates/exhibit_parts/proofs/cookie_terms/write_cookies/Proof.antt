@@ -3,7 +3,7 @@ use mathlib.Core.Path.{sym, _∙_}
 use Prim.Native.Nat.{_-_}
 use native.Mathlib.Omega.{arith}
 use borrow.Author.Needs.{needs}
-use Rattle.layouts.specs.Tables.{cookiesIn}
+use Rattle.layouts.specs.Tables.{hostCookiesIn}
 use Rattle.wim.specs.Shown.{cookieTerm}
 use Rattle.exhibit_parts.specs.Kept.{isOpenTo}
 use Rattle.csexp.proofs.write.Steps.{opened, ended}
@@ -12,7 +12,7 @@ use Rattle.exhibit_parts.proofs.cookie_terms.write_cookies.Statement.{s
 use Rattle.exhibit_parts.proofs.cookie_terms.write_cookies.Tie as tie
 
 abbrev Inv-loop : tie.InvT-loop
-Inv-loop m out₀ at origin n p₀ i₀ out p i = Passing cookiesIn (isOpenTo origin) cookieTerm m n i out₀ p₀ out p
+Inv-loop m out₀ at origin n p₀ i₀ out p i = Passing hostCookiesIn (isOpenTo origin) cookieTerm m n i out₀ p₀ out p
 
 abbrev μ-loop : tie.MeasureT-loop
 μ-loop m out₀ at origin n p₀ i₀ out p i = n - i

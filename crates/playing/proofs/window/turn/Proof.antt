@@ -1,10 +1,10 @@
--- What is played lies within the window, and its lines within theirs.
+-- What is played lies within the window, and its lines within theirs; the browser comes to where `play` leaves it.
 use mathlib.Core.Path.{_≡_, sym}
 use native.Mathlib.Omega.{arith}
 use borrow.Author.Needs.{needs}
 use lib.ListN.{length, take}
 use lib.Seq.{length-take-le}
-use Rattle.playing.proofs.Meaning.{written-within, reasons}
+use Rattle.playing.proofs.Meaning.{written-within, reasons, play-comes}
 use Rattle.playing.proofs.window.turn.Statement.{statement}
 use Rattle.playing.proofs.window.turn.Tie as tie
 
@@ -24,5 +24,14 @@ keep-requires c κs =
 fill-requires : tie.Need-fill-requires
 fill-requires c κs = search needs
 
+returns : tie.Need-returns
+returns c = record { within = search needs; comes = play-comes (c .before .before .before .before .before .before .before .before .before .play .ensures) }
+
+returns-2 : tie.Need-returns-2
+returns-2 c = record { within = search needs; comes = play-comes (c .before .before .before .before .before .before .before .before .before .before .play .ensures) }
+
+returns-3 : tie.Need-returns-3
+returns-3 c = record { within = search needs; comes = play-comes (c .before .before .before .before .before .before .before .before .before .before .before .before .before .before .play .ensures) }
+
 pub turn-spec : {M : Type 1} → statement M
-turn-spec = tie.close (tie.spec (λ c. search needs) slice-aggregate-play (λ c κs. tt) slice-reshare-prefix-tell (λ c. search needs) (λ c κs. tt) keep-requires (λ c. search needs) (λ c. search needs) fill-requires (λ c. search needs) (λ c. search needs) (λ c. search needs) (λ c. search needs) (λ c. search needs) (λ c. search needs) (λ c. search needs) (λ c. search needs) (λ c. search needs) (λ c. search needs))
+turn-spec = tie.close (tie.spec (λ c. search needs) slice-aggregate-play (λ c κs. tt) slice-reshare-prefix-tell (λ c. search needs) (λ c κs. tt) keep-requires (λ c. search needs) (λ c. search needs) fill-requires (λ c. search needs) (λ c. search needs) (λ c. search needs) returns (λ c. search needs) (λ c. search needs) returns-2 (λ c. search needs) (λ c. search needs) returns-3)

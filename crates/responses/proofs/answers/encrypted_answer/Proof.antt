@@ -1,6 +1,6 @@
 -- A request waits with this key, or 3.
 use mathlib.Core.Option.{none, some}
-use lib.ListN.{take}
+use Rattle.types.specs.Lists.{cookiesIn}
 use Rattle.wim.specs.Program.{ask, keyed, observed, run}
 use Rattle.wim.specs.Step.{freshLabels}
 use Rattle.wim.specs.Main.{encryptedAnswer}
@@ -14,7 +14,7 @@ returns : tie.Need-returns
 unfolding observed
 returns c =
     let x = c .before .before .before .before .before .before .args in
-    let k = encryptedAnswer (x .a) (take (x .few .count) (x .few .rows)) in
+    let k = encryptedAnswer (x .a) (cookiesIn (x .few)) in
     let found = c .before .before .before .before .first .result in
     performs-as (ask (keyed (x .k)) k) (k (some (found .row)))
     (asked (keyed (x .k)) k (view (x .m .now)) (freshLabels (x .f)) (some (found .row)) (looked-yes (found .found) (found .row) {o = observed (keyed (x .k)) (view (x .m .now))} (c .before .before .before .before .first .ensures) (c .before .before .before .if1 .taken)))
@@ -24,7 +24,7 @@ returns-2 : tie.Need-returns-2
 unfolding observed run encryptedAnswer
 returns-2 c =
     let x = c .before .before .before .before .args in
-    let k = encryptedAnswer (x .a) (take (x .few .count) (x .few .rows)) in
+    let k = encryptedAnswer (x .a) (cookiesIn (x .few)) in
     let found = c .before .before .first .result in
     refuses (ask (keyed (x .k)) k) (x .f)
     (asked (keyed (x .k)) k (view (x .m .now)) (freshLabels (x .f)) none (looked-no (found .found) (found .row) {o = observed (keyed (x .k)) (view (x .m .now))} (c .before .before .first .ensures) (c .before .if1 .left)))

@@ -1,7 +1,7 @@
 -- The request is dropped, the cookies are put in, and the host where the header says so.
 use mathlib.Core.Path.{_∙_, ap}
 use mathlib.Core.Bool.{_&&_}
-use lib.ListN.{take}
+use Rattle.types.specs.Lists.{cookiesIn}
 use Rattle.tables.specs.Tables.{pendingRequests}
 use Rattle.stepping.proofs.Carry.{keep-carries}
 use Rattle.responses.proofs.Acting.{acts}
@@ -12,7 +12,7 @@ returns : tie.Need-returns
 returns c =
     let x = c .before .before .before .before .before .before .before .before .before .before .before .before .before .before .args in
     let good = c .before .before .before .before .before .before .before .taken .result in
-    acts (x .w) (x .a) (take (x .few .count) (x .few .rows)) (take (good .count) (good .rows)) (c .before .before .before .both .result)
+    acts (x .w) (x .a) (cookiesIn (x .few)) (cookiesIn good) (c .before .before .before .both .result)
     (keep-carries pendingRequests (c .before .before .before .before .before .before .before .before .keep .ensures))
     (c .before .before .before .before .before .before .before .taken .ensures)
     (c .before .before .before .before .before .put-cookies .ensures)

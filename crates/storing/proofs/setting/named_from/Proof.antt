@@ -2,15 +2,16 @@
 use Prim.Native.Nat.{_-_}
 use mathlib.Core.Path.{_≡_, refl, sym, _∙_}
 use native.Mathlib.Omega.{arith}
-use lib.ListN.{take, drop}
+use lib.ListN.{drop}
 use Rattle.sorted.proofs.Count.{mapped}
+use Rattle.types.specs.Lists.{cookiesIn}
 use Rattle.wim.specs.Cookies.{named}
 use Rattle.storing.proofs.Names.{named-here, named-further, named-nowhere}
 use Rattle.storing.proofs.setting.named_from.Statement.{statement}
 use Rattle.storing.proofs.setting.named_from.Tie as tie
 
 abbrev Inv-loop : tie.InvT-loop
-Inv-loop from name few n i₀ i = named name (drop i (take (few .count) (few .rows))) ≡ named name (drop i₀ (take (few .count) (few .rows)))
+Inv-loop from name few n i₀ i = named name (drop i (cookiesIn few)) ≡ named name (drop i₀ (cookiesIn few))
 
 abbrev μ-loop : tie.MeasureT-loop
 μ-loop from name few n i₀ i = n - i
