@@ -1,7 +1,7 @@
--- The rules held against something outside: the points and the run of 01, and runs whose lines were settled from the papers alone.
+-- The rules held against something outside: the points and the run of 01, a dozen runs, guards over one small browser, and its local steps.
 pub mod Compared
 pub mod Paper
-pub mod Rows
-pub mod Navigating
-pub mod Answering
-pub mod Refusing
+pub mod Runs
+pub mod SmallBrowser
+pub mod Guards
+pub mod Local

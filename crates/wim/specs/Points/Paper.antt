@@ -8,12 +8,11 @@ use Rattle.types.specs.declared.refusals.Verdict.{Verdict}
 use Rattle.types.specs.declared.refusals.Verdict.the-variants.{Accepted, Refused}
 use Rattle.tables.specs.Tables.{windows, documents}
 use Rattle.csexp.specs.Text.{text}
-use Rattle.csexp.specs.Term.{Term, atom, list, decimal, write}
+use Rattle.csexp.specs.Term.{Term, atom, list}
 use Rattle.csexp.specs.Read.{Got, no, got, read}
 use Rattle.shapes.specs.Texts.{itemIn}
 use Rattle.wim.specs.Navigable.{navigableMask, navigableSize}
 use Rattle.wim.specs.Step.{refusalNumber, Browser, emptyBrowser}
-use Rattle.wim.specs.Shown.{Shown, hidden, shown, whatIsShown}
 use Rattle.wim.specs.Wire.{rehearse}
 use Rattle.wim.specs.Run.{performed, after}
 use Rattle.wim.specs.Points.Compared.{Run, equal, prints}
@@ -205,78 +204,6 @@ bothNamesThere = record {
       ∷ [];
 }
 
--- 31 may navigate 30, and 30 may navigate 31
-abbrev pub parentAndChildNavigate : Run
-parentAndChildNavigate = record {
-  items =
-      "((1:11:17:TRIGGER)(6:urlbar3:new1:P1:51:7()())((6:window2:30)(7:request2:30)(3:dns2:30)))"
-      ∷ "((1:11:1(11:DNSResolved1:51:9(3:dns2:30)))()())"
-      ∷ "((1:11:1(8:HTTPResp(7:request2:30)3:200()(1:11:0)))()((8:document2:30)))"
-      ∷ "((1:11:17:TRIGGER)(6:script(6:window2:30)1:0()()()(6:IFRAME(3:URL1:P1:61:8()())(6:window2:30)))((6:window2:31)(7:request2:31)(3:dns2:31)))"
-      ∷ "((1:11:1(11:DNSResolved1:61:9(3:dns2:31)))()())"
-      ∷ "((1:11:1(8:HTTPResp(7:request2:31)3:200()(1:11:0)))()((8:document2:31)))"
-      ∷ "((1:11:17:TRIGGER)(6:script(6:window2:31)1:0()()()(4:HREF(3:URL1:P1:71:9()())(6:window2:30)1:T))((7:request1:1)(3:dns1:1)))"
-      ∷ "((1:11:1(11:DNSResolved1:71:9(3:dns1:1)))()())"
-      ∷ "((1:11:1(8:HTTPResp(7:request1:1)3:200()(1:11:0)))()((8:document1:1)))"
-      ∷ "((1:11:17:TRIGGER)(6:script(6:window2:31)1:0()()()())())"
-      ∷ "((1:11:17:TRIGGER)(4:back(6:window2:30))())"
-      ∷ "((1:11:17:TRIGGER)(6:script(6:window2:30)1:0()()()(4:HREF(3:URL1:P1:71:9()())(6:window2:31)1:T))((7:request1:2)(3:dns1:2)))"
-      ∷ "((1:11:1(11:DNSResolved1:71:9(3:dns1:2)))()())"
-      ∷ "((1:11:1(8:HTTPResp(7:request1:2)3:200()(1:11:0)))()((8:document1:2)))"
-      ∷ "((1:11:17:TRIGGER)(4:back(6:window2:31))())"
-      ∷ [];
-  lines =
-      "(1:21:1(10:DNSResolve1:5(3:dns2:30)))"
-      ∷ "(1:91:1(7:HTTPReq(7:request2:30)3:GET1:51:7()((6:Cookie()))()))"
-      ∷ "()"
-      ∷ "(1:21:1(10:DNSResolve1:6(3:dns2:31)))"
-      ∷ "(1:91:1(7:HTTPReq(7:request2:31)3:GET1:61:8()((6:Cookie())(7:Referer(3:URL1:P1:51:7()())))()))"
-      ∷ "()"
-      ∷ "(1:21:1(10:DNSResolve1:7(3:dns1:1)))"
-      ∷ "(1:91:1(7:HTTPReq(7:request1:1)3:GET1:71:9()((6:Cookie()))()))"
-      ∷ "()"
-      ∷ "3"
-      ∷ "()"
-      ∷ "(1:21:1(10:DNSResolve1:7(3:dns1:2)))"
-      ∷ "(1:91:1(7:HTTPReq(7:request1:2)3:GET1:71:9()((6:Cookie()))()))"
-      ∷ "()"
-      ∷ "()"
-      ∷ [];
-}
-
--- 30 may navigate 40; 40 may not navigate 30 and lands in its own window
-abbrev pub openerNavigates : Run
-openerNavigates = record {
-  items =
-      "((1:11:17:TRIGGER)(6:urlbar3:new1:P1:51:7()())((6:window2:30)(7:request2:30)(3:dns2:30)))"
-      ∷ "((1:11:1(11:DNSResolved1:51:9(3:dns2:30)))()())"
-      ∷ "((1:11:1(8:HTTPResp(7:request2:30)3:200()(1:11:0)))()((8:document2:30)))"
-      ∷ "((1:11:17:TRIGGER)(6:script(6:window2:30)1:0()()()(4:HREF(3:URL1:P1:61:8()())6:_BLANK1:F))((6:window2:40)(7:request2:40)(3:dns2:40)))"
-      ∷ "((1:11:1(11:DNSResolved1:61:9(3:dns2:40)))()())"
-      ∷ "((1:11:1(8:HTTPResp(7:request2:40)3:200()(1:11:0)))()((8:document2:40)))"
-      ∷ "((1:11:17:TRIGGER)(6:script(6:window2:40)1:0()()()(4:HREF(3:URL1:P1:71:9()())(6:window2:30)1:T))((7:request1:1)(3:dns1:1)))"
-      ∷ "((1:11:1(11:DNSResolved1:71:9(3:dns1:1)))()())"
-      ∷ "((1:11:1(8:HTTPResp(7:request1:1)3:200()(1:11:0)))()((8:document1:1)))"
-      ∷ "((1:11:17:TRIGGER)(4:back(6:window2:30))())"
-      ∷ "((1:11:17:TRIGGER)(6:script(6:window2:30)1:0()()()(4:BACK(6:window2:40)))())"
-      ∷ "((1:11:17:TRIGGER)(4:back(6:window2:40))())"
-      ∷ [];
-  lines =
-      "(1:21:1(10:DNSResolve1:5(3:dns2:30)))"
-      ∷ "(1:91:1(7:HTTPReq(7:request2:30)3:GET1:51:7()((6:Cookie()))()))"
-      ∷ "()"
-      ∷ "(1:21:1(10:DNSResolve1:6(3:dns2:40)))"
-      ∷ "(1:91:1(7:HTTPReq(7:request2:40)3:GET1:61:8()((6:Cookie())(7:Referer(3:URL1:P1:51:7()())))()))"
-      ∷ "()"
-      ∷ "(1:21:1(10:DNSResolve1:7(3:dns1:1)))"
-      ∷ "(1:91:1(7:HTTPReq(7:request1:1)3:GET1:71:9()((6:Cookie()))()))"
-      ∷ "()"
-      ∷ "4"
-      ∷ "()"
-      ∷ "4"
-      ∷ [];
-}
-
 abbrev pub point : ℕ → Bool → Point
 point n holds = record { number = n; holds = holds }
 
@@ -297,10 +224,8 @@ points =
     ∷ point 9 (prints bothNamesThere)
     ∷ point 10 (eqb (setFrom 31 parentAndChild) 3 && eqb (sizeFrom 31 parentAndChild) 2)
     ∷ point 10 (eqb (setFrom 30 parentAndChild) 3 && eqb (sizeFrom 30 parentAndChild) 2)
-    ∷ point 10 (prints parentAndChildNavigate)
     ∷ point 11 (eqb (setFrom 30 openerAndOpened) 3 && eqb (sizeFrom 30 openerAndOpened) 2)
     ∷ point 11 (eqb (setFrom 40 openerAndOpened) 2 && eqb (sizeFrom 40 openerAndOpened) 1)
-    ∷ point 11 (prints openerNavigates)
     ∷ []
 
 -- Refusal 7: 37 bytes are needed. They fit exactly from place 0 and from place 3 of 40; one byte less, a place one further, and a place past
@@ -321,11 +246,3 @@ room =
 abbrev pub allTrue : List Bool → Bool
 allTrue [] = true
 allTrue (b ∷ bs) = b && allTrue bs
-
--- What a script is shown, as text; the refusal's number where nothing is.
-abbrev pub shownText : Shown → List ℕ
-shownText (hidden r) = decimal (refusalNumber r)
-shownText (shown t) = write t
-
-abbrev pub shownIn : ℕ → Browser → List ℕ
-shownIn w b = shownText (whatIsShown b (record { 0 = w }))
