@@ -15,10 +15,10 @@ use Rattle.shapes.specs.Texts.{Taken, unread, item, itemIn}
 use Rattle.shapes.specs.Events.{Message, eventOf}
 use Rattle.writing.specs.Outgoing.{sentIn}
 use Rattle.wim.specs.Nouns.{Item, NoRoom, Accepted}
-use Rattle.wim.specs.Step.{Browser, Result, declined, accepted, step}
+use Rattle.wim.specs.Step.{Browser, emptyBrowser, Result, declined, accepted, step}
 use Rattle.wim.specs.Wire.{Returned, refusing, putInto, returning, rehearsing, rehearse}
 use Rattle.wim.specs.Run.{performed}
-use Rattle.wim.specs.Invariant.{MadeOfTexts}
+use Rattle.wim.specs.Made.{RunsTo}
 use Rattle.ranges.proofs.Made.{what-went-out-is-read-back}
 
 -- what was put into a buffer stands there
@@ -33,7 +33,7 @@ abbrev pub ReadBack : Option Message → Returned → ℕ → Type 0
 ReadBack none r place = r .count ≡ 0
 ReadBack (some m) r place = sentIn (take (r .count) (drop place (r .buffer))) ≡ some m
 
-module _ (b : Browser) (R : MadeOfTexts b) (s out : List ℕ) (place : ℕ) where
+module _ (b : Browser) (R : RunsTo emptyBrowser b) (s out : List ℕ) (place : ℕ) where
   written : (i : Item) → itemIn s ≡ item i → (o : Result) → step i b ≡ o → returning o b out place .verdict ≡ Accepted
       → (m : Option Message) × (o ≡ accepted (returning o b out place .browser) m) × ReadBack m (returning o b out place) place
   written i e (declined r) f v = never (cc)

@@ -72,7 +72,7 @@ target-in : (w : List ℕ) → Yields TargetIn (either (means w NewWindow) (maps
 target-in w = either-yields TargetIn _ _ (means-yields TargetIn _ NewWindow tt) (maps-yields TargetIn _ Existing _ window-in (λ v i. i))
 
 holder-in : Yields HolderIn holderOf
-holder-in = either-yields HolderIn _ _ (means-yields HolderIn _ Itself tt) (maps-yields HolderIn _ Within _ window-in (λ w i. i))
+holder-in = either-yields HolderIn _ _ (means-yields HolderIn _ Itself tt) (either-yields HolderIn _ _ (means-yields HolderIn _ Itself tt) (maps-yields HolderIn _ Within _ window-in (λ w i. i)))
 
 matching-in : Yields MatchingIn matchingOf
 matching-in = optionally-yields MatchingIn _ Unmatched By _ tt (numeral-yields _ _) (λ n i. i)

@@ -2,18 +2,16 @@
 use mathlib.Core.Path.{_≡_}
 use mathlib.Core.Logic.{_⊎_}
 use mathlib.Core.Bool.{true}
-use mathlib.Core.List.{List}
 use mathlib.Core.Option.{Option, some}
-use Prim.Native.Nat.{ℕ, suc, _≤_}
+use Prim.Native.Nat.{suc, _≤_}
 use lib.ListN.{length}
 use Rattle.sorted.specs.Table.{In, Sorted}
 use Rattle.tables.specs.Tables.{Table, windows, documents, inputs, pendingDNS, pendingRequests, Row, keyOf, cmp, cap, Tables, noRows}
-use Rattle.shapes.specs.Texts.{item, itemIn}
 use Rattle.shapes.specs.Events.{Message}
 use Rattle.wim.specs.Nouns.{WindowNumber, Item, Keyed, Window, Document, Input, Question, Waiting, KeyNumber}
 use Rattle.wim.specs.Walks.{windowNumbered, documentNumbered, steps, topAbove}
 use Rattle.wim.specs.Program.{made}
-use Rattle.wim.specs.Step.{stepTables, Browser, emptyBrowser, accepted, step}
+use Rattle.wim.specs.Step.{stepTables}
 use Rattle.wim.specs.Ranges.{RowIn}
 
 -- Tables in order, no larger than 01 allows, and every number brought once under its label.
@@ -50,8 +48,3 @@ pub record Sound (b : Tables) : Type 0 where
 pub data MadeTables : Tables → Type 0 where
   untouched : MadeTables noRows
   stepped : {b c : Tables} (i : Item) (m : Option Message) → MadeTables b → stepTables i b ≡ made c m → MadeTables c
-
--- The browsers that accepted steps have made from the empty open one, of items that were read: their tables are sound.
-pub data MadeOfTexts : Browser → Type 0 where
-  begun : MadeOfTexts emptyBrowser
-  rehearsed : {b c : Browser} (s : List ℕ) (i : Item) (m : Option Message) → MadeOfTexts b → itemIn s ≡ item i → step i b ≡ accepted c m → MadeOfTexts c

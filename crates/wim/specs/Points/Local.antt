@@ -108,7 +108,9 @@ localSteps =
     ∷ row (plainlyTo7 4 302) true 1 (6 ∷ []) ((request, 4) ∷ [])
     ∷ row (plainlyTo7 5 303) true 1 (6 ∷ 7 ∷ []) ((request, 5) ∷ [])
     ∷ row (plainly 6) true 1 (6 ∷ []) ((request, 6) ∷ [])
+    ∷ row (plainlyTo7 6 303) true 1 (6 ∷ []) ((request, 6) ∷ [])
     ∷ row (plainly 7) true 0 (8 ∷ []) ((request, 7) ∷ [])
+    ∷ row (plainlyTo7 7 303) true 0 (8 ∷ []) ((request, 7) ∷ [])
     -- to an XHR of a document that is active, inactive, unreached, gone; to a request that waits under a key, and to none
     ∷ row (plainly 8) true 1 (5 ∷ []) ((request, 8) ∷ [])
     ∷ row (plainlyTo7 8 303) true 1 (5 ∷ []) ((request, 8) ∷ [])
