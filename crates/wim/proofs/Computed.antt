@@ -52,6 +52,7 @@ computed = record {
   seven-for-want-of-room = refl;
   runs-print = refl;
   guards = record {
+    state-stored = refl;
     script-set = refl;
     state-set = refl;
     own-fragment = refl;

@@ -15,15 +15,22 @@ use Rattle.wim.specs.Shown.{Shown, hidden, shown, whatIsShown}
 use Rattle.wim.specs.Points.SmallBrowser.{address, plain, smallBrowser, storing, script, answer, fresh, noneBrought, asking, after, refusal}
 
 -- WHAT IS LOOKED AT.
--- window 1's script sets 9 in a window, as script or as script state: the documents that have a script then, that have a state
-abbrev pub scriptSet : ℕ → List ℕ
-scriptSet x = map (λ (d : Document). d .number .0) (keep (λ (d : Document). ltb 0 (d .script .0)) (after (script 1 (SetScript (record { 0 = x }) (record { 0 = 9 }))) noneBrought documents))
-
+-- the documents that have a script state after a script's step, and it
 abbrev numberAndState : Document → ℕ × ℕ
 numberAndState d = (d .number .0, d .state .0)
 
+abbrev statesAfter : Event → List (ℕ × ℕ)
+statesAfter e = map numberAndState (keep (λ (d : Document). ltb 0 (d .state .0)) (after e noneBrought documents))
+
+abbrev pub stateStored : ℕ → List (ℕ × ℕ)
+stateStored w = statesAfter (script w Nothing)
+
+-- window 1's script sets 9 in a window, as script or as script state
+abbrev pub scriptSet : ℕ → List ℕ
+scriptSet x = map (λ (d : Document). d .number .0) (keep (λ (d : Document). ltb 0 (d .script .0)) (after (script 1 (SetScript (record { 0 = x }) (record { 0 = 9 }))) noneBrought documents))
+
 abbrev pub stateSet : ℕ → List (ℕ × ℕ)
-stateSet x = map numberAndState (keep (λ (d : Document). ltb 0 (d .state .0)) (after (script 1 (SetScriptState (record { 0 = x }) (record { 0 = 9 }))) noneBrought documents))
+stateSet x = statesAfter (script 1 (SetScriptState (record { 0 = x }) (record { 0 = 9 })))
 
 -- what is asked next where a waiting request is redirected
 abbrev asked : Tables → List Question
@@ -104,6 +111,8 @@ counts b =
 
 -- THE EQUATIONS.
 pub record Guards : Type 0 where
+  -- A7:14: in the active document of the window that the script runs in
+  pub state-stored : map stateStored (1 ∷ 2 ∷ 3 ∷ 5 ∷ []) ≡ ((11, 7) ∷ []) ∷ ((21, 7) ∷ []) ∷ ((31, 7) ∷ []) ∷ ((51, 7) ∷ []) ∷ []
   -- A2, A7:52 to 59: into its own window, a reached one of its origin, one of another origin, an unreached one, one that isn't there
   pub script-set : map scriptSet (1 ∷ 2 ∷ 3 ∷ 4 ∷ 9 ∷ []) ≡ (11 ∷ []) ∷ (21 ∷ []) ∷ (11 ∷ []) ∷ (11 ∷ []) ∷ (11 ∷ []) ∷ []
   -- the state that the script puts out, 7, is stored first

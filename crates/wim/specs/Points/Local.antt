@@ -1,5 +1,5 @@
 -- Every kind of event over the small browser, with what 01 "Local steps, for demand 3" says of it: is it local, under which window it stands, its hosts, and
--- the numbers that it names. Demand 3 is weaker wherever one of these is changed.
+-- the numbers that it names. Demand 3 would say less if fewer kinds were local, or if a step had more hosts or names.
 use mathlib.Core.Bool.{Bool, true, false}
 use mathlib.Core.List.{List, [], _∷_, map}
 use mathlib.Core.Option.{Option, none, some}
@@ -32,8 +32,8 @@ own = record { 0 = 1 }
 abbrev another : WindowNumber
 another = record { 0 = 2 }
 
-abbrev nobody : WindowNumber
-nobody = record { 0 = 9 }
+abbrev gone : WindowNumber
+gone = record { 0 = 9 }
 
 abbrev resolved : ℕ → Event
 resolved n = DnsResolved (record { host = record { 0 = 7 }; address = record { 0 = 9 }; number = record { 0 = n } })
@@ -83,16 +83,16 @@ localSteps =
     -- the other triggers
     ∷ row (Urlbar NewWindow (plain 7)) false 0 (7 ∷ []) []
     ∷ row (Urlbar (Existing own) (plain 7)) true 1 (7 ∷ []) ((window, 1) ∷ [])
-    ∷ row (Urlbar (Existing nobody) (plain 7)) true 0 (7 ∷ []) ((window, 9) ∷ [])
+    ∷ row (Urlbar (Existing gone) (plain 7)) true 0 (7 ∷ []) ((window, 9) ∷ [])
     ∷ row (Reload own) true 1 (5 ∷ []) ((window, 1) ∷ [])
     ∷ row (Reload another) true 1 (5 ∷ []) ((window, 2) ∷ [])
-    ∷ row (Reload nobody) true 0 [] ((window, 9) ∷ [])
+    ∷ row (Reload gone) true 0 [] ((window, 9) ∷ [])
     ∷ row (GoForward own) true 1 [] ((window, 1) ∷ [])
     ∷ row (GoForward another) true 1 [] ((window, 2) ∷ [])
-    ∷ row (GoForward nobody) true 0 [] ((window, 9) ∷ [])
+    ∷ row (GoForward gone) true 0 [] ((window, 9) ∷ [])
     ∷ row (GoBack own) true 1 [] ((window, 1) ∷ [])
     ∷ row (GoBack another) true 1 [] ((window, 2) ∷ [])
-    ∷ row (GoBack nobody) true 0 [] ((window, 9) ∷ [])
+    ∷ row (GoBack gone) true 0 [] ((window, 9) ∷ [])
     ∷ row CloseCorrupt false 0 [] []
     -- encrypted answers: to a window, to an XHR, to nothing that waits; each with a redirect
     ∷ row (sealed 1 12) true 5 (5 ∷ []) ((key, 1) ∷ (request, 12) ∷ [])
