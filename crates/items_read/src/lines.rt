@@ -1,8 +1,8 @@
 // The lines of the input.
-use crate::seeking::find;
 use crate::telling::tell_reading;
 use libc::STDOUT_FILENO;
 use reading::read_item;
+use seeking::find;
 
 fn one_line(line: &[u8]) {
     let e = find(line, 0, b' ');

@@ -1,5 +1,4 @@
 // Reads texts and items. Each line of the input is a name, a space and a text; each line of the output is the name, and 1, 2 or what the item says.
-mod seeking; // a byte sought in a line
 mod lines;
 mod telling;
 

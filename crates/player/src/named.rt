@@ -3,13 +3,14 @@ use libc::STDOUT_FILENO;
 use memory::Memory;
 use playing::play_all;
 
+// Of a file that can't be opened nothing is printed; the reason goes to standard error.
 fn play_file(name: &[u8], m: &mut Memory) {
-    io::write_all(STDOUT_FILENO, name);
     let input = os::open_read(name);
     if input < 0 {
-        io::write_all(STDOUT_FILENO, b" is missing\n");
+        os::fail(name);
         return;
     }
+    io::write_all(STDOUT_FILENO, name);
     io::write_all(STDOUT_FILENO, b"\n");
     play_all(input, m, true);
     libc::close(input);

@@ -3,7 +3,7 @@ use Prim.Native.Nat.{_-_}
 use native.Mathlib.Omega.{arith}
 use lib.ListN.{length}
 use borrow.Author.Needs.{needs}
-use Rattle.items_read.proofs.seeking.Places.{from, within}
+use Rattle.seeking.proofs.Places.{from, within}
 use Rattle.items_read.proofs.lines.each_line.Statement.{statement}
 use Rattle.items_read.proofs.lines.each_line.Tie as tie
 

@@ -3,7 +3,7 @@ use mathlib.Core.Path.{sym}
 use native.Mathlib.Omega.{arith}
 use lib.Seq.{length-take-le}
 use borrow.Author.Needs.{needs}
-use Rattle.items_read.proofs.seeking.Places.{within}
+use Rattle.seeking.proofs.Places.{within}
 use Rattle.items_read.proofs.lines.one_line.Statement.{statement}
 use Rattle.items_read.proofs.lines.one_line.Tie as tie
 

@@ -1,0 +1,2 @@
+-- Memories compared.
+pub mod Changing

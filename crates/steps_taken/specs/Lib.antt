@@ -1,0 +1,2 @@
+-- What a step changed.
+pub mod Changes
