@@ -1,14 +1,13 @@
 -- Cookie headers: those that are tidy, and the loops over a header's pairs.
 use mathlib.Core.Path.{_≡_, refl, sym, ap, ap₂, _∙_}
-use mathlib.Core.List.{List, [], _∷_}
-use Prim.Native.Nat.{ℕ, zero, suc, zero-le, _+_, _*_, _≤_, _<_, min}
-use native.Mathlib.Nat.{not-suc-le-zero, le-of-suc-le-suc}
+use mathlib.Core.List.{List, []}
+use Prim.Native.Nat.{ℕ, zero-le, _+_, _*_, _≤_, _<_, min}
 use native.Mathlib.Numerals.{add-one}
 use native.Mathlib.Omega.{arith}
 use lib.ListN.{length, getD, take, drop, set, length-set, List·getD-eq-default}
 use lib.Seq.{take-suc, take-suc-set}
 use Rattle.sorted.specs.Table.{fill}
-use Rattle.sorted.proofs.Count.{all-rows, row-count, taken-fits}
+use Rattle.sorted.proofs.Count.{all-rows, row-count, taken-fits, take-fill}
 use Rattle.sorted.proofs.Collect.{fill-more}
 use Rattle.tables.specs.Nouns.{Pair, Jar}
 use Rattle.tables.specs.Rows.{blankPair, jar}
@@ -16,11 +15,6 @@ use Rattle.memory.specs.Rows.{total, rows, count, table, over, Within}
 use Rattle.memory.proofs.Table.{rows-length, row-at, rows-over, rows-count, count-count}
 use Rattle.memory.proofs.Frame.{within-refl, within-then, within-set, within-over}
 use Rattle.layouts.specs.Jars.{pairFrom, pairsIn, jarAt, tidy, Wrote}
-
-take-fill : {A : Type 0} (d : A) (n : ℕ) (l : List A) → length l ≤ n → take (length l) (fill d n l) ≡ l
-take-fill d n [] h = refl
-take-fill d zero (x ∷ l) h = absurd (not-suc-le-zero h)
-take-fill {A} d (suc n) (x ∷ l) h = ap {B = List A} (λ (t : List A). x ∷ t) (take-fill d n l (le-of-suc-le-suc h))
 
 -- a header of few enough pairs is tidy
 pub tidy-jar : (ps : List Pair) → length ps ≤ 64 → tidy (jar ps) ≡ jar ps

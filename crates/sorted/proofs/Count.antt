@@ -2,7 +2,7 @@
 use mathlib.Core.Path.{_≡_, refl, sym, ap, _∙_}
 use mathlib.Core.Bool.{Bool, true, false}
 use mathlib.Core.List.{List, [], _∷_, map}
-use Prim.Native.Nat.{ℕ, _+_, _≤_, _<_, min}
+use Prim.Native.Nat.{ℕ, zero, suc, _+_, _≤_, _<_, min}
 use native.Mathlib.Nat.{min-eq-left, min-eq-right, le-of-lt}
 use native.Mathlib.Numerals.{add-one}
 use native.Mathlib.Omega.{arith}
@@ -10,6 +10,7 @@ use borrow.Author.Tests.{ltb-true, ltb-false}
 use lib.Dec.{ltb}
 use lib.ListN.{length, getD, take, drop, drop-of-length-le, length-map, length-take}
 use lib.Seq.{drop-cons, take-all, getD-take, length-take-le}
+use Rattle.sorted.specs.Table.{fill}
 
 -- the length of an array of structs, as owning it tells it: `search mapped` at `length rows ≡ capacity`
 pub mapped : (X Y : Type 0) (f : X → Y) (l : List X) (n : ℕ) → length (map f l) ≡ n → length l ≡ n
@@ -17,6 +18,13 @@ mapped X Y f l n p = sym (length-map l f) ∙ p
 
 pub taken-fits : {A : Type 0} (count capacity : ℕ) (rows : List A) → length rows ≡ capacity → length (take count rows) ≤ capacity
 taken-fits count capacity rows e = rw (length-take count rows) (omega arith)
+
+-- of an array that was filled up, the rows that count
+pub take-fill : {A : Type 0} (d : A) (n : ℕ) (l : List A) → length l ≤ n → take (length l) (fill d n l) ≡ l
+take-fill d zero [] h = refl
+take-fill d zero (x ∷ l) h = absurd (omega arith)
+take-fill d (suc n) [] h = refl
+take-fill d (suc n) (x ∷ l) h = ap (x ∷_) (take-fill d n l (omega arith))
 
 -- a count beyond the capacity reads as the capacity
 used-take : {A : Type 0} (count capacity : ℕ) (rows : List A) → length rows ≡ capacity → take (min count capacity) rows ≡ take count rows
