@@ -1,0 +1,2 @@
+-- Which texts are read as an item.
+pub mod Texts
