@@ -11,13 +11,14 @@ use Rattle.tables.specs.Tables.{windows, Tables}
 use Rattle.tables.specs.Labels.{Label}
 use Rattle.shapes.specs.Events.{Message}
 use Rattle.wim.specs.Nouns.{Event, RunScript, Urlbar, Reload, GoForward, GoBack, CloseCorrupt, EncryptedAnswer, PlainAnswer, DnsResolved, Item, Closed}
-use Rattle.wim.specs.Program.{Program, Outcome, refused, made, run}
+use Rattle.wim.specs.Program.{Program, made, run}
 use Rattle.wim.specs.Main.{cookiesIn, program}
 use Rattle.wim.specs.Step.{freshLabels, fits, stepTables, Browser, declined, accepted, closes, concluded, step}
 use Rattle.wim.specs.LocalSteps.{isLocal, stands, hosts}
 use Rattle.wim.specs.Invariant.{Numbered, MadeTables, untouched, stepped}
 use Rattle.invariant.proofs.Numbered.Fresh.{fresh-absent, admitted}
 use Rattle.invariant.proofs.Numbered.Steps.{made-numbered}
+use Rattle.invariant.proofs.Opened.{opened}
 use Rattle.either_order.specs.Statement.{Made, empty, next, EightFree, LocalStep, Apart, EitherOrder}
 use Rattle.either_order.proofs.Part.{Level, Whole}
 use Rattle.either_order.proofs.Commute.{side, commute}
@@ -73,20 +74,7 @@ either-first b N free i j Li Lj A bi bj mi mj ei ej =
       admits fi bj (run (steps i) bj fi) (r .0) mi (r .2) (all-absent bj fi (fresh-after b N i j Lj A Ni bj mj (aj .0))) room,
     )
 
--- AN ACCEPTED STEP OF A BROWSER is one of its tables; the browser was open.
-pub opened : (i : Item) (b c : Browser) (m : Option Message) → step i b ≡ accepted c m → (b .closed ≡ false) × (stepTables i (b .tables) ≡ made (c .tables) m) × (c .closed ≡ closes (i .event))
-unfolding step
-opened i b c m e = go (b .closed) (stepTables i (b .tables)) refl refl e
-  where
-    go : (x : Bool) (o : Outcome) → b .closed ≡ x → stepTables i (b .tables) ≡ o → cond x (declined Closed) (concluded (closes (i .event)) o) ≡ accepted c m
-        → (b .closed ≡ false) × (stepTables i (b .tables) ≡ made (c .tables) m) × (c .closed ≡ closes (i .event))
-    go true o p q h = never (cc)
-    go false (refused r) p q h = never (cc)
-    go false (made d n) p q h =
-        let z : record { tables = d; closed = closes (i .event) } ≡ c = cc in
-        let y : n ≡ m = cc in
-        (p, q ∙ (λ k. made (z k .tables) (y k)), ap (λ (x : Browser). x .closed) (sym z))
-
+-- A STEP OF THE TABLES of an open browser is one of the browser.
 pub stepped-on : (i : Item) (b c : Browser) (m : Option Message) → b .closed ≡ false → stepTables i (b .tables) ≡ made (c .tables) m → c .closed ≡ closes (i .event) → step i b ≡ accepted c m
 unfolding step
 stepped-on i b c m p q r =

@@ -19,4 +19,4 @@ pub mod Blocks
 pub mod Commands
 pub mod Answers
 pub mod Kept
-pub mod Sound
+pub mod Made

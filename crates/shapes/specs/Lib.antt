@@ -4,3 +4,4 @@ pub mod Words
 pub mod Items
 pub mod Texts
 pub mod Events
+pub mod Ranges

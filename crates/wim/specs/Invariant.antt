@@ -2,16 +2,19 @@
 use mathlib.Core.Path.{_≡_}
 use mathlib.Core.Logic.{_⊎_}
 use mathlib.Core.Bool.{true}
+use mathlib.Core.List.{List}
 use mathlib.Core.Option.{Option, some}
-use Prim.Native.Nat.{suc, _≤_}
+use Prim.Native.Nat.{ℕ, suc, _≤_}
 use lib.ListN.{length}
 use Rattle.sorted.specs.Table.{In, Sorted}
-use Rattle.tables.specs.Tables.{Table, windows, documents, inputs, pendingDNS, pendingRequests, keyOf, cmp, cap, Tables, noRows}
+use Rattle.tables.specs.Tables.{Table, windows, documents, inputs, pendingDNS, pendingRequests, Row, keyOf, cmp, cap, Tables, noRows}
+use Rattle.shapes.specs.Texts.{item, itemIn}
 use Rattle.shapes.specs.Events.{Message}
 use Rattle.wim.specs.Nouns.{WindowNumber, Item, Keyed, Window, Document, Input, Question, Waiting, KeyNumber}
 use Rattle.wim.specs.Walks.{windowNumbered, documentNumbered, steps, topAbove}
 use Rattle.wim.specs.Program.{made}
-use Rattle.wim.specs.Step.{stepTables}
+use Rattle.wim.specs.Step.{stepTables, Browser, emptyBrowser, accepted, step}
+use Rattle.wim.specs.Ranges.{RowIn}
 
 -- Tables in order, no larger than 01 allows, and every number brought once under its label.
 pub record Numbered (b : Tables) : Type 0 where
@@ -34,11 +37,21 @@ pub record Rooted (b : Tables) : Type 0 where
   pub one-active : (d : Document) → In d (b documents) → (e : Document) × In e (b documents) × (e .window ≡ d .window) × (e .active ≡ true)
   pub only-active : (d e : Document) → In d (b documents) → In e (b documents) → d .window ≡ e .window → d .active ≡ true → e .active ≡ true → d ≡ e
 
+-- Every number of every row is in its range. This and no more: what a row says twice, a request's host beside its address, is not compared.
+pub record InRange (b : Tables) : Type 0 where
+  pub rows : (t : Table) (r : Row t) → In r (b t) → RowIn t r
+
 pub record Sound (b : Tables) : Type 0 where
   pub numbered : Numbered b
   pub rooted : Rooted b
+  pub inRange : InRange b
 
--- the tables that accepted steps have made from empty ones
+-- The tables that accepted steps have made from empty ones, of whatever items: they are numbered and rooted.
 pub data MadeTables : Tables → Type 0 where
   untouched : MadeTables noRows
   stepped : {b c : Tables} (i : Item) (m : Option Message) → MadeTables b → stepTables i b ≡ made c m → MadeTables c
+
+-- The browsers that accepted steps have made from the empty open one, of items that were read: their tables are sound.
+pub data MadeOfTexts : Browser → Type 0 where
+  begun : MadeOfTexts emptyBrowser
+  rehearsed : {b c : Browser} (s : List ℕ) (i : Item) (m : Option Message) → MadeOfTexts b → itemIn s ≡ item i → step i b ≡ accepted c m → MadeOfTexts c

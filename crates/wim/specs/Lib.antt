@@ -12,6 +12,7 @@ pub mod Main
 pub mod Step
 pub mod Shown
 pub mod LocalSteps
+pub mod Ranges
 pub mod Invariant
 pub mod Wire
 pub mod Run

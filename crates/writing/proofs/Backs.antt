@@ -1,22 +1,22 @@
 -- What goes out is read back, message by message: a law for each part.
 use mathlib.Core.Path.{_≡_, refl, sym, ap, subst, _∙_}
 use mathlib.Core.Bool.{Bool, true, false, cond}
-use mathlib.Core.List.{List, [], append-nil}
+use mathlib.Core.List.{List, [], _∷_}
 use mathlib.Core.Option.{some}
 use Prim.Native.Nat.{ℕ}
 use native.Mathlib.Omega.{arith}
+use Rattle.sorted.specs.Table.{All}
 use Rattle.csexp.specs.Text.{text}
 use Rattle.csexp.specs.Term.{Terms, nil, cons, atom, list, write}
-use Rattle.csexp.specs.Read.{got, read}
 use Rattle.csexp.specs.Decode.{same, means, maps, word, atomOf}
-use Rattle.csexp.proofs.Meaning.{read-complete}
+use Rattle.csexp.proofs.Meaning.{read-written}
 use Rattle.csexp.specs.Encode.{numberTerm, labelled, joins}
-use Rattle.csexp.proofs.write.Backs.{Gives, Holds, Denies, in-list, then-one, at-end, first-of, second-of, by-maps, no-maps, no-list, is-vacant, is-filled, is-there, is-other, is-last, is-word, is-means, no-means, no-begin, is-number, no-number, is-labelled, is-optional, all-back}
+use Rattle.csexp.proofs.write.Backs.{Each, each-none, each-more, Gives, Holds, Denies, in-list, then-one, at-end, first-of, second-of, by-maps, no-maps, no-list, is-vacant, is-filled, is-there, is-other, is-last, is-word, is-means, no-means, no-begin, is-number, no-number, is-labelled, is-optional, all-back}
 use Rattle.shapes.specs.Nouns.{Protocol, Plain, Secure, Fragment, Absent, Named, Url, Origin, CookieName, Pair, Jar, Method, Get, Head, Post, Put, Delete, Connect, Options, Trace, OriginHeader, Unsent, Null, From, Referrer, Unknown, Known, Request}
 use Rattle.shapes.specs.Items.{protocolOf, fragmentOf, urlOf, originOf, nameOf, methodOf, headerOf}
+use Rattle.shapes.specs.Ranges.{FragmentIn, UrlIn, NameIn, PairIn, OriginIn, OriginHeaderIn, ReferrerIn, pairs, jar, RequestIn, MessageIn}
 use Rattle.shapes.specs.Events.{protocolTerm, fragmentTerm, urlTerm, methodTerm, nameTerm, pairTerm, originTerm, originHeader, refererHeader, headersTerm, requestTerm, Message, resolve, unsealed, sealed, eventOf}
-use Rattle.writing.specs.Outgoing.{pairOf, jar, originHeaderOf, behindCookie, headersOf, requestOf, sentOf, whole, sentIn}
-use Rattle.writing.specs.Within.{In, FragmentIn, UrlIn, PairIn, OriginIn, ReferrerIn, pairs, RequestIn, MessageIn}
+use Rattle.writing.specs.Outgoing.{pairOf, originHeaderOf, behindCookie, headersOf, requestOf, sentOf, whole, sentIn}
 
 protocol-back : (p : Protocol) → Gives protocolOf (protocolTerm p) p
 unfolding same
@@ -75,7 +75,7 @@ method-back Trace =
     (second-of _ (no-means _ _ _ refl)
     (second-of _ (no-means _ _ _ refl) (first-of _ (is-means _ _))))))))
 
-name-back : (n : CookieName) → In 0 65535 (n .number) → Gives nameOf (nameTerm n) n
+name-back : (n : CookieName) → NameIn n → Gives nameOf (nameTerm n) n
 unfolding labelled
 name-back n i = go (n .prefixed)
   where
@@ -86,7 +86,7 @@ name-back n i = go (n .prefixed)
 pair-back : (p : Pair) → PairIn p → Gives pairOf (pairTerm p) p
 pair-back p i = in-list (then-one _ (name-back (p .name) (i .name)) (then-one _ (is-number _ _ _ (i .value .low) (i .value .high)) at-end))
 
-origin-back : (o : Origin) → In 1 65535 (o .host .0) → Gives originOf (originTerm o) o
+origin-back : (o : Origin) → OriginIn o → Gives originOf (originTerm o) o
 origin-back o i = in-list (then-one _ (is-number _ _ _ (i .low) (i .high)) (then-one _ (protocol-back (o .protocol)) at-end))
 
 -- a list is not a word
@@ -98,14 +98,14 @@ no-means-list w v ts = record { is = refl }
 null-back : Gives (headerOf (text "Origin") originHeaderOf) (list (cons (atom (text "Origin")) (cons (atom (text "null")) nil))) Null
 null-back = in-list (then-one _ (is-word _) (then-one _ (first-of _ (is-means _ _)) at-end))
 
-from-back : (o : Origin) → In 1 65535 (o .host .0) → Gives (headerOf (text "Origin") originHeaderOf) (list (cons (atom (text "Origin")) (cons (originTerm o) nil))) (From o)
+from-back : (o : Origin) → OriginIn o → Gives (headerOf (text "Origin") originHeaderOf) (list (cons (atom (text "Origin")) (cons (originTerm o) nil))) (From o)
 from-back o i = in-list (then-one _ (is-word _) (then-one _ (second-of _ (no-means-list _ _ _) (by-maps From (origin-back o i))) at-end))
 
 referer-back : (u : Url) → UrlIn u → Gives (headerOf (text "Referer") urlOf) (list (cons (atom (text "Referer")) (cons (urlTerm u) nil))) u
 referer-back u i = in-list (then-one _ (is-word _) (then-one _ (url-back u i) at-end))
 
 -- the headers behind Cookie, for each way in which they may be absent
-behind-back : (j : Jar) (o : OriginHeader) (r : Referrer) → OriginIn o → ReferrerIn r → Holds (behindCookie j) (joins (originHeader o) (refererHeader r)) (record { cookies = j; origin = o; referrer = r })
+behind-back : (j : Jar) (o : OriginHeader) (r : Referrer) → OriginHeaderIn o → ReferrerIn r → Holds (behindCookie j) (joins (originHeader o) (refererHeader r)) (record { cookies = j; origin = o; referrer = r })
 unfolding joins same
 behind-back j Unsent Unknown i k = is-last _ _ _ _ (is-last _ _ _ _ at-end)
 behind-back j Unsent (Known u) i k = is-other _ _ _ (no-begin _ _ _ _ refl) (is-there _ _ _ (referer-back u k) at-end)
@@ -114,10 +114,14 @@ behind-back j Null (Known u) i k = is-there _ _ _ null-back (is-there _ _ _ (ref
 behind-back j (From o) Unknown i k = is-there _ _ _ (from-back o i) (is-last _ _ _ _ at-end)
 behind-back j (From o) (Known u) i k = is-there _ _ _ (from-back o i) (is-there _ _ _ (referer-back u k) at-end)
 
+each-all : {A : Type 0} (P : A → Type 0) (l : List A) → All P l → Each P l
+each-all P [] h = each-none
+each-all P (x ∷ l) h = each-more (h .0) (each-all P l (h .1))
+
 headers-back : (q : Request) → RequestIn q → Gives headersOf (headersTerm q) (record { cookies = jar (pairs q); origin = q .origin; referrer = q .referrer })
 headers-back q i =
     in-list
-    (then-one _ (in-list (then-one _ (is-word _) (then-one _ (in-list (all-back pairOf pairTerm pair-back 64 (i .few) (i .each))) at-end)))
+    (then-one _ (in-list (then-one _ (is-word _) (then-one _ (in-list (all-back pairOf pairTerm pair-back 64 (i .few) (each-all PairIn (pairs q) (i .each)))) at-end)))
     (behind-back (jar (pairs q)) (q .origin) (q .referrer) (i .origin) (i .referrer)))
 
 request-back : (q : Request) → RequestIn q → Gives requestOf (requestTerm q) q
@@ -177,16 +181,14 @@ sent-back (sealed a k q) i =
     (first-of _
     (in-list
     (then-one _ (is-word _)
-    (then-one _ (in-list (then-one _ (request-back q (i .1 .1)) (then-one _ (is-labelled _ _ _ _ (i .1 .0 .low) (i .1 .0 .high)) at-end)))
+    (then-one _ (in-list (then-one _ (request-back q (i .2)) (then-one _ (is-labelled _ _ _ _ (i .1 .low) (i .1 .high)) at-end)))
     (then-one _ (is-labelled _ _ _ (q .host .0) (omega arith) (omega arith))
     at-end))))))
     at-end)))
 
 -- So does reading its text,
 pub text-back : (m : Message) → MessageIn m → sentIn (write (eventOf m)) ≡ some m
-text-back m i =
-    let all : read (write (eventOf m)) ≡ got (eventOf m) [] = ap read (sym (append-nil (write (eventOf m)))) ∙ read-complete (eventOf m) [] in
-    ap whole all ∙ sent-back m i .is
+text-back m i = ap whole (read-written (eventOf m)) ∙ sent-back m i .is
 
 -- and two messages with one text are one.
 pub text-settles : (m n : Message) → MessageIn m → MessageIn n → write (eventOf m) ≡ write (eventOf n) → m ≡ n

@@ -10,75 +10,26 @@ use native.Mathlib.Omega.{arith}
 use lib.ListN.{length, take}
 use lib.Dec.{eqb}
 use borrow.Author.Tests.{eqb-true}
-use Rattle.sorted.specs.Table.{fill}
+use Rattle.sorted.specs.Table.{All, fill}
 use Rattle.sorted.proofs.Count.{take-fill}
 use Rattle.sorted.proofs.Never.{never}
 use Rattle.csexp.specs.Text.{text}
 use Rattle.csexp.specs.Term.{Term, Terms, nil, cons, atom, list, write}
 use Rattle.csexp.specs.Read.{Got, no, got, read}
-use Rattle.csexp.specs.Decode.{Decoder, numeral, optionalOf, labelledOf, inside, end, upTo, perhaps}
-use Rattle.csexp.specs.Encode.{numberTerm, optionalTerm, labelled, each, joins}
+use Rattle.csexp.specs.Decode.{inside, end, upTo, perhaps}
+use Rattle.csexp.specs.Encode.{each, joins}
 use Rattle.csexp.proofs.Meaning.{read-sound}
-use Rattle.csexp.proofs.write.Backs.{Each, each-none, each-more}
-use Rattle.csexp.proofs.write.Only.{GivesOnly, HoldsOnly, gives-so, holds-so, only-nothing, only-inside, only-one, only-end, only-up-to, only-perhaps, only-either, only-maps, only-optionally, only-word, only-means, only-numeral, only-optional, only-labelled}
-use Rattle.shapes.specs.Nouns.{Protocol, Plain, Secure, Fragment, Absent, Named, Url, Origin, CookieName, Pair, Jar, Method, Get, Head, Post, Put, Delete, Connect, Options, Trace, OriginHeader, Unsent, Null, From, Referrer, Unknown, Known, Request}
+use Rattle.csexp.proofs.write.Only.{GivesOnly, HoldsOnly, gives-so, holds-so, only-nothing, only-inside, only-one, only-end, only-up-to, only-perhaps, only-either, only-maps, only-word, only-means}
+use Rattle.shapes.specs.Nouns.{Pair, Jar, OriginHeader, Unsent, Null, From, Referrer, Unknown, Known, Request}
 use Rattle.shapes.specs.Words.{most16}
-use Rattle.shapes.specs.Items.{protocolOf, fragmentOf, urlOf, originOf, nameOf, methodOf, headerOf}
-use Rattle.shapes.specs.Events.{protocolTerm, fragmentTerm, urlTerm, methodTerm, nameTerm, pairTerm, cookieHeader, originTerm, originHeader, refererHeader, requestTerm, eventTerm, Message, eventOf}
-use Rattle.writing.specs.Outgoing.{pairOf, blankPair, jar, Carried, behindCookie, headersOf, requestOf, sealedOf, questionOf, messageTo, sentOf, whole, sentIn}
-use Rattle.writing.specs.Within.{In, FragmentIn, UrlIn, PairIn, OriginIn, ReferrerIn, RequestIn, MessageIn}
+use Rattle.shapes.specs.Items.{urlOf, headerOf}
+use Rattle.shapes.specs.Ranges.{Between, PairIn, OriginHeaderIn, ReferrerIn, blankPair, jar, RequestIn, MessageIn}
+use Rattle.shapes.proofs.Parts.{number-only, optional-only, labelled-only, url-only, origin-only, name-only, method-only, header-only}
+use Rattle.shapes.specs.Events.{pairTerm, cookieHeader, originHeader, refererHeader, requestTerm, eventTerm, Message, eventOf}
+use Rattle.writing.specs.Outgoing.{pairOf, Carried, behindCookie, headersOf, requestOf, sealedOf, questionOf, messageTo, sentOf, whole, sentIn}
 use Rattle.writing.proofs.Backs.{text-back}
 
--- NUMBERS.
-module _ {P : Term → ℕ → Type 0} where
-  number-only : (lo hi : ℕ) → ((n : ℕ) → In lo hi n → P (numberTerm n) n) → GivesOnly (numeral lo hi) P
-  number-only lo hi p = only-numeral lo hi λ n low high. p n (record { low = low; high = high })
-
-  optional-only : (hi : ℕ) → ((n : ℕ) → In 0 hi n → P (optionalTerm n) n) → GivesOnly (optionalOf hi) P
-  optional-only hi p = only-optional hi λ n high. p n (record { low = omega arith; high = high })
-
-  labelled-only : (w : List ℕ) (lo hi : ℕ) → ((n : ℕ) → In lo hi n → P (labelled w n) n) → GivesOnly (labelledOf w lo hi) P
-  labelled-only w lo hi p = only-labelled w lo hi λ n low high. p n (record { low = low; high = high })
-
--- ADDRESSES.
-protocol-only : {P : Term → Protocol → Type 0} → ((p : Protocol) → P (protocolTerm p) p) → GivesOnly protocolOf P
-protocol-only p = only-either (only-means _ _ (p Plain)) (only-means _ _ (p Secure))
-
-fragment-only : {P : Term → Fragment → Type 0} → ((f : Fragment) → FragmentIn f → P (fragmentTerm f) f) → GivesOnly fragmentOf P
-fragment-only p = only-optionally _ _ (p Absent tt) (number-only _ _ λ n i. p (Named n) i)
-
-pub url-only : {P : Term → Url → Type 0} → ((u : Url) → UrlIn u → P (urlTerm u) u) → GivesOnly urlOf P
-url-only p =
-    only-inside
-    (only-one _ (only-word _
-    (only-one _ (protocol-only λ protocol.
-    only-one _ (number-only _ _ λ host h.
-    only-one _ (number-only _ _ λ path a.
-    only-one _ (optional-only _ λ parameters v.
-    only-one _ (fragment-only λ fragment f.
-    only-end _ (p _ (record { host = h; path = a; parameters = v; fragment = f }))))))))))
-
-origin-only : {P : Term → Origin → Type 0} → ((o : Origin) → In 1 most16 (o .host .0) → P (originTerm o) o) → GivesOnly originOf P
-origin-only p = only-inside (only-one _ (number-only _ _ λ host h. only-one _ (protocol-only λ protocol. only-end _ (p _ h))))
-
-method-only : {P : Term → Method → Type 0} → ((m : Method) → P (methodTerm m) m) → GivesOnly methodOf P
-method-only p =
-    only-either (only-means _ _ (p Get))
-    (only-either (only-means _ _ (p Head))
-    (only-either (only-means _ _ (p Post))
-    (only-either (only-means _ _ (p Put))
-    (only-either (only-means _ _ (p Delete))
-    (only-either (only-means _ _ (p Connect))
-    (only-either (only-means _ _ (p Options))
-    (only-either (only-means _ _ (p Trace))
-    only-nothing)))))))
-
 -- COOKIES.
-name-only : {P : Term → CookieName → Type 0} → ((n : CookieName) → In 0 most16 (n .number) → P (nameTerm n) n) → GivesOnly nameOf P
-name-only p =
-    only-either (only-maps _ (number-only _ _ λ n i. p (record { prefixed = false; number = n }) i))
-    (only-maps _ (labelled-only _ _ _ λ n i. p (record { prefixed = true; number = n }) i))
-
 pair-only : {P : Term → Pair → Type 0} → ((p : Pair) → PairIn p → P (pairTerm p) p) → GivesOnly pairOf P
 pair-only p = only-inside (only-one _ (name-only λ name n. only-one _ (number-only _ _ λ value v. only-end _ (p _ (record { name = n; value = v })))))
 
@@ -86,18 +37,15 @@ pair-only p = only-inside (only-one _ (name-only λ name n. only-one _ (number-o
 record PairsOnly (n : ℕ) (ts : Terms) (ps : List Pair) : Type 0 where
   terms : ts ≡ each pairTerm ps
   few : length ps ≤ n
-  all : Each PairIn ps
+  all : All PairIn ps
 
 pairs-only : (n : ℕ) → HoldsOnly (upTo n pairOf) (PairsOnly n)
 unfolding each
 pairs-only n =
-    only-up-to {P = PairsOnly} (λ n. record { terms = refl; few = omega arith; all = each-none })
-    (pair-only λ p i n ts ps h. let l = h .few in record { terms = ap (cons (pairTerm p)) (h .terms); few = omega arith; all = each-more i (h .all) }) n
+    only-up-to {P = PairsOnly} (λ n. record { terms = refl; few = omega arith; all = tt })
+    (pair-only λ p i n ts ps h. let l = h .few in record { terms = ap (cons (pairTerm p)) (h .terms); few = omega arith; all = (i, h .all) }) n
 
-header-only : {A : Type 0} {d : Decoder A} {P : Term → A → Type 0} (w : List ℕ) → GivesOnly d (λ t v. P (list (cons (atom w) (cons t nil))) v) → GivesOnly (headerOf w d) P
-header-only w g = only-inside (only-one _ (only-word _ (only-one _ (gives-so g λ t v q. only-end v q))))
-
-cookies-only : {P : Term → List Pair → Type 0} → ((ps : List Pair) → length ps ≤ 64 → Each PairIn ps → P (cookieHeader (jar ps)) ps)
+cookies-only : {P : Term → List Pair → Type 0} → ((ps : List Pair) → length ps ≤ 64 → All PairIn ps → P (cookieHeader (jar ps)) ps)
     → GivesOnly (headerOf (text "Cookie") (inside (upTo 64 pairOf))) P
 cookies-only {P} p =
     header-only _ (only-inside (holds-so (pairs-only 64) λ ts ps h.
@@ -112,7 +60,7 @@ referer-only : {P : Terms → Carried → Type 0} (j : Jar) (o : OriginHeader)
 referer-only j o p = only-perhaps _ _ _ (header-only _ (url-only λ u i. only-end _ (p (Known u) i))) (only-end _ (p Unknown tt))
 
 behind-only : {P : Terms → Carried → Type 0} (j : Jar)
-    → ((o : OriginHeader) (r : Referrer) → OriginIn o → ReferrerIn r → P (joins (originHeader o) (refererHeader r)) (record { cookies = j; origin = o; referrer = r }))
+    → ((o : OriginHeader) (r : Referrer) → OriginHeaderIn o → ReferrerIn r → P (joins (originHeader o) (refererHeader r)) (record { cookies = j; origin = o; referrer = r }))
     → HoldsOnly (behindCookie j) P
 unfolding joins
 behind-only j p =
@@ -123,7 +71,7 @@ behind-only j p =
     (referer-only j Unsent λ r k. p Unsent r tt k)
 
 headers-only : {P : Term → Carried → Type 0}
-    → ((ps : List Pair) (o : OriginHeader) (r : Referrer) → length ps ≤ 64 → Each PairIn ps → OriginIn o → ReferrerIn r
+    → ((ps : List Pair) (o : OriginHeader) (r : Referrer) → length ps ≤ 64 → All PairIn ps → OriginHeaderIn o → ReferrerIn r
     → P (list (cons (cookieHeader (jar ps)) (joins (originHeader o) (refererHeader r)))) (record { cookies = jar ps; origin = o; referrer = r }))
     → GivesOnly headersOf P
 headers-only p = only-inside (only-one _ (cookies-only λ ps few all. behind-only (jar ps) λ o r i k. p ps o r few all i k))
@@ -149,7 +97,7 @@ request-only p =
       path = a;
       parameters = v;
       few = subst (λ (l : List Pair). length l ≤ 64) (sym back) few;
-      each = subst (Each PairIn) (sym back) all;
+      each = subst (All PairIn) (sym back) all;
       blank = ap jar (sym back);
       origin = i;
       referrer = k;
@@ -159,7 +107,7 @@ request-only p =
 -- MESSAGES: t, sent to the address a, is the event of m.
 record SentTo (a : ℕ) (t : Term) (m : Message) : Type 0 where
   event : eventTerm a t ≡ eventOf m
-  within : In 1 most16 a → MessageIn m
+  within : Between 1 most16 a → MessageIn m
 
 sealed-only : (a : ℕ) → GivesOnly (sealedOf a) (SentTo a)
 unfolding eventOf
@@ -169,7 +117,7 @@ sealed-only a =
     (only-one _ (only-inside (only-one _ (request-only λ q i. only-one _ (labelled-only _ _ _ λ key k. only-end _
     (only-one _ (labelled-only _ _ _ λ host h.
     let same : host ≡ q .host .0 = omega arith in
-    only-end _ (record { event = rw same; within = λ r. (r, (k, i)) }))))))))))
+    only-end _ (record { event = rw same; within = λ r. (r, k, i) }))))))))))
 
 question-only : GivesOnly questionOf (SentTo 2)
 unfolding eventOf

@@ -1,11 +1,9 @@
 -- Events that go out, read off terms: the mirror of how they are written (shapes' Events).
-use mathlib.Core.Bool.{false, cond}
+use mathlib.Core.Bool.{cond}
 use mathlib.Core.List.{List, [], _∷_}
 use mathlib.Core.Option.{Option, none}
 use Prim.Native.Nat.{ℕ}
-use lib.ListN.{length}
 use lib.Dec.{eqb}
-use Rattle.sorted.specs.Table.{fill}
 use Rattle.csexp.specs.Text.{text}
 use Rattle.csexp.specs.Term.{Term}
 use Rattle.csexp.specs.Read.{Got, no, got, read}
@@ -14,16 +12,11 @@ use Rattle.shapes.specs.Nouns.{KeyNumber, Pair, Jar, OriginHeader, Unsent, Null
 use Rattle.shapes.specs.Words.{most16, most32}
 use Rattle.shapes.specs.Items.{urlOf, originOf, nameOf, methodOf, headerOf}
 use Rattle.shapes.specs.Events.{Message, resolve, unsealed, sealed}
+pub use Rattle.shapes.specs.Ranges.{blankPair, jar}
 
 -- (name value)
 abbrev pub pairOf : Decoder Pair
 pairOf = inside (one nameOf λ name. one (numeral 0 most32) λ value. end (record { name = name; value = record { 0 = value } }))
-
-abbrev pub blankPair : Pair
-blankPair = record { name = record { prefixed = false; number = 0 }; value = record { 0 = 0 } }
-
-abbrev pub jar : List Pair → Jar
-jar ps = record { rows = fill blankPair 64 ps; count = length ps }
 
 -- 4:null or (host protocol)
 abbrev pub originHeaderOf : Decoder OriginHeader

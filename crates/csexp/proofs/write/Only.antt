@@ -1,6 +1,6 @@
 -- A decoder finds only what was encoded: a law for each of its parts, the converse of those in Backs. To show P of every term and value that
 -- a decoder gives, it is enough to show P of what the encoder makes of each value.
---     gives-so · holds-so                                        what follows from P
+--     gives-so · holds-so · only-any                             what follows from P; where nothing is asked
 --     only-inside · only-one · only-end · only-up-to             a list and its fields
 --     only-perhaps                                               a field that may be absent
 --     only-nothing · only-either · only-maps · only-optionally   nothing, one of two, a value made of a value, () or a value
@@ -36,6 +36,10 @@ module _ {A : Type 0} where
 
   pub holds-so : {f : Fields A} {P Q : Terms → A → Type 0} → HoldsOnly f Q → ((ts : Terms) (v : A) → Q ts v → P ts v) → HoldsOnly f P
   holds-so g h = record { is = λ ts v e. h ts v (g .is ts v e) }
+
+  -- where nothing is asked of what is read
+  pub only-any : {d : Decoder A} {P : Term → A → Type 0} → ((t : Term) (v : A) → P t v) → GivesOnly d P
+  only-any h = record { is = λ t v e. h t v }
 
   pub only-nothing : {P : Term → A → Type 0} → GivesOnly (λ _. none) P
   only-nothing = record { is = λ t v e. none-some e }
