@@ -1,6 +1,6 @@
 -- What reading, the contracts and the limits say in terms of writing alone.
 --     read-complete · read-sound                a text is read exactly where it begins with a term as it is written
---     write-injective                           no two terms are written alike
+--     read-written · write-injective            what was written is read; no two terms are written alike
 --     written-is-found · found-is-written       the same of a decoder at a position: what `Reads` says
 --     reads-agree                               any two answers that `Reads` allows are the same, where one of them found something
 --     written-is-whole · whole-is-written       the same of a whole text within limits: what `whole` says
@@ -32,9 +32,12 @@ read-complete t r = terms.read-complete t r
 pub read-sound : (s : List ℕ) {t : Term} {r : List ℕ} → read s ≡ got t r → s ≡ write t ++ r
 read-sound s e = terms.read-sound s e
 
+pub read-written : (t : Term) → read (write t) ≡ got t []
+read-written t = ap read (sym (append-nil (write t))) ∙ read-complete t []
+
 pub write-injective : (t u : Term) → write t ≡ write u → t ≡ u
 write-injective t u e =
-    let same : got t [] ≡ got u [] = sym (read-complete t []) ∙ ap (λ (l : List ℕ). read (l ++ [])) e ∙ read-complete u [] in
+    let same : got t [] ≡ got u [] = sym (read-written t) ∙ ap read e ∙ read-written u in
     cc
 
 module _ {A : Type 0} (d : Decoder A) (s : List ℕ) (at : ℕ) (v : A) where
@@ -98,9 +101,8 @@ module _ (bytes n : ℕ) where
   pub written-is-whole : (t : Term) → length (write t) ≤ bytes → levels t ≤ n → wholeOf bytes n (write t) ≡ true
   unfolding wholeOf
   written-is-whole t h l =
-      let reads-all : read (write t) ≡ got t [] = ap read (sym (append-nil (write t))) ∙ read-complete t [] in
       ap (λ (c : Bool). cond c (allOf n (read (write t))) false) (le-leb (length (write t)) bytes h)
-      ∙ ap (allOf n) reads-all ∙ le-leb (levels t) n l
+      ∙ ap (allOf n) (read-written t) ∙ le-leb (levels t) n l
 
   pub ending-is-written : (s : List ℕ) (at p : ℕ) → endingOf bytes n s at ≡ Whole p → (t : Term) × (drop at s ≡ write t ++ drop p s) × (p - at ≤ bytes) × (levels t ≤ n)
   unfolding endingOf

@@ -3,5 +3,6 @@ pub mod Over
 pub mod Steps
 pub mod Leaves
 pub mod Backs
+pub mod Only
 pub mod Bounds
 pub mod Tops

@@ -18,8 +18,7 @@ use Rattle.wim.specs.Script.{noData, urlOrigin}
 use Rattle.wim.specs.Response.{strictHost, actOnHeaders, isRedirect, whereTo, inheriting, withFragmentOf, askedOrigin, originAfter, turnsToGet, redirection, Course, followed, loaded, handed, nothingMore, windowCourse, scriptCourse, courseOf, takes, processResponse}
 use Rattle.wim.specs.Main.{encryptedAnswer, plainAnswer, waitingOf, goOut, resolved}
 use Rattle.wim.specs.Ranges.{DocumentIn, ReferenceIn, SealIn, QuestionIn, WaitingIn}
-use Rattle.shapes.proofs.Yields.{none-between}
-use Rattle.shapes.proofs.Ranges.{WindowNumberIn}
+use Rattle.shapes.proofs.Ranges.{WindowNumberIn, none-between}
 use Rattle.ranges.proofs.Ranged.{Held, PutsIn, Ranged, ranged-done, ranged-ask, ranged-bring, ranged-edit, ranged-revise, ranged-needs, ranged-unless}
 use Rattle.ranges.proofs.Shared.{SendingIn, ranged-send, ranged-remove, stays-active, stored-in}
 use Rattle.ranges.proofs.Scripts.{kept-in, filed-in}

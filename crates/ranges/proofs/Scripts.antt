@@ -15,8 +15,7 @@ use Rattle.wim.specs.Cookies.{allowed, named, latest, guarded, cookieMerge}
 use Rattle.wim.specs.Program.{Program, reached, active, history, navigated, ofOrigin, arrived, under, cookiesOf}
 use Rattle.wim.specs.Script.{noData, openerUnless, otherwise, getWindow, getNavigableWindow, store, sendingFrom, hrefInto, href, iframeIn, iframe, isFormMethod, isGet, formSending, formInto, form, setting, isForbidden, isGetOrHead, urlOrigin, xhrSending, xhr, withWindow, close, isFor, file, deliver, postMessage, command, runScript}
 use Rattle.wim.specs.Ranges.{OpenerIn, DocumentIn, NewsIn, ReferenceIn}
-use Rattle.shapes.proofs.Yields.{none-between}
-use Rattle.shapes.proofs.Ranges.{WindowNumberIn}
+use Rattle.shapes.proofs.Ranges.{WindowNumberIn, none-between}
 use Rattle.ranges.proofs.Ranged.{Held, PutsIn, Ranged, ranged-done, ranged-ask, ranged-bring, ranged-edit, ranged-revise, ranged-needs, ranged-stop}
 use Rattle.ranges.proofs.Shared.{SendingIn, ranged-send, ranged-cancel, ranged-remove, Stays, stays-changing, stays-state, stays-script, ranged-store, Leads, ranged-back, ranged-forward}
 

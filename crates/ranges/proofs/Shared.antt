@@ -25,8 +25,7 @@ use Rattle.wim.specs.Script.{storeLocal, storeSession, store, remove}
 use Rattle.wim.specs.Ranges.{DocumentIn, HostCookieIn, StoredIn, ReferenceIn, QuestionIn}
 use Rattle.wim.specs.Invariant.{InRange}
 use Rattle.invariant.proofs.Rooted.Walk.{Ends}
-use Rattle.shapes.proofs.Yields.{none-between}
-use Rattle.shapes.proofs.Ranges.{WindowNumberIn}
+use Rattle.shapes.proofs.Ranges.{WindowNumberIn, none-between}
 use Rattle.ranges.proofs.Ranged.{PutsIn, edited-in, After, Brought, Ranged, ranged-done, ranged-refuse, ranged-ask, ranged-edit, ranged-revise}
 
 -- HTTP_SEND.

@@ -20,8 +20,7 @@ use Rattle.wim.specs.Ranges.{DocumentIn, ReferenceIn}
 use Rattle.wim.specs.Invariant.{InRange}
 use Rattle.invariant.proofs.Numbered.Fresh.{admitted, fits-sizes}
 use Rattle.invariant.proofs.Rooted.Walk.{ends-run}
-use Rattle.shapes.proofs.Yields.{none-between}
-use Rattle.shapes.proofs.Ranges.{WindowNumberIn}
+use Rattle.shapes.proofs.Ranges.{WindowNumberIn, none-between}
 use Rattle.ranges.proofs.Ranged.{Held, After, Brought, Ranged, ranged-done, ranged-ask, ranged-bring, ranged-edit, ranged-needs, ranged-unless}
 use Rattle.ranges.proofs.Shared.{SendingIn, ranged-send, ranged-cancel, ranged-back, ranged-forward}
 use Rattle.ranges.proofs.Scripts.{ranged-script}

@@ -1,36 +1,28 @@
 -- What a text is taken for, by what its readers say.
 use mathlib.Core.Path.{_≡_, refl, sym, ap, _∙_}
 use mathlib.Core.Bool.{Bool, true, false, cond}
-use mathlib.Core.List.{List, [], _∷_}
+use mathlib.Core.List.{List, []}
 use mathlib.Core.Option.{Option, none, some}
 use Prim.Native.Nat.{ℕ, _-_}
 use native.Mathlib.Omega.{arith}
 use lib.ListN.{length}
 use lib.Dec.{leb}
 use Rattle.csexp.specs.Term.{Term}
-use Rattle.csexp.specs.Read.{Got, no, got, read}
+use Rattle.csexp.specs.Read.{Got, got, read}
 use Rattle.csexp.specs.At.{fails, ends, place, termAt, seen}
 use Rattle.csexp.specs.Decode.{Decoder}
 use Rattle.csexp.specs.Answers.{found, decode, Reads}
-use Rattle.csexp.specs.Limits.{itemBytes, itemLevels, allOf, wholeOf}
+use Rattle.csexp.specs.Limits.{itemBytes, itemLevels, wholeOf}
 use Rattle.csexp.proofs.Steps.{seen-there}
-use Rattle.shapes.specs.Nouns.{Item, BadText, BadShape}
+use Rattle.csexp.proofs.Meaning.{read-written, whole-is-written}
+use Rattle.shapes.specs.Nouns.{Item, BadShape}
 use Rattle.shapes.specs.Items.{itemOf}
-use Rattle.shapes.specs.Texts.{unread, item, shaped, taken, itemIn}
+use Rattle.shapes.specs.Texts.{unread, item, shaped, itemIn}
+use Rattle.shapes.proofs.Texts.{of-term}
 
 -- a whole text is one term, and nothing is left
-whole-term : (bytes n : ℕ) (s : List ℕ) → wholeOf bytes n s ≡ true → (t : Term) × (read s ≡ got t [])
-unfolding wholeOf
-whole-term bytes n s e = by (leb (length s) bytes) e
-  where
-    go : (x : Got Term) → read s ≡ x → allOf n x ≡ true → (t : Term) × (read s ≡ got t [])
-    go no f q = let z : _≡_ {A = ℕ} 0 1 = cc in absurd (omega arith)
-    go (got t []) f q = (t, f)
-    go (got t (b ∷ r)) f q = let z : _≡_ {A = ℕ} 0 1 = cc in absurd (omega arith)
-
-    by : (c : Bool) → cond c (allOf n (read s)) false ≡ true → (t : Term) × (read s ≡ got t [])
-    by true q = go (read s) refl q
-    by false q = let z : _≡_ {A = ℕ} 0 1 = cc in absurd (omega arith)
+whole-term : (s : List ℕ) → wholeOf itemBytes itemLevels s ≡ true → (t : Term) × (read s ≡ got t [])
+whole-term s e = let w = whole-is-written itemBytes itemLevels s e in (w .0, ap read (w .1) ∙ read-written (w .0))
 
 module _ {A : Type 0} {s : List ℕ} {v : A} {p : ℕ} (d : Decoder A) (t : Term) (e : read s ≡ got t []) (r : Reads d s 0 v p) where
   term-there : seen s v p ≡ found (d t) (length s - 0)
@@ -55,16 +47,8 @@ module _ {A : Type 0} {s : List ℕ} {v : A} {p : ℕ} (d : Decoder A) (t : Term
       go (some a) false q = let z : _≡_ {A = ℕ} 0 1 = cc in absurd (omega arith)
 
 module _ (s : List ℕ) where
-  pub no-text : wholeOf itemBytes itemLevels s ≡ false → itemIn s ≡ unread BadText
-  unfolding itemIn
-  no-text e = ap (λ (c : Bool). cond c (taken (read s)) (unread BadText)) e
-
-  of-term : (t : Term) → wholeOf itemBytes itemLevels s ≡ true → read s ≡ got t [] → itemIn s ≡ shaped (itemOf t)
-  unfolding itemIn
-  of-term t e f = ap (λ (c : Bool). cond c (taken (read s)) (unread BadText)) e ∙ ap taken f
-
   pub is-item : {v : Item} {p : ℕ} → wholeOf itemBytes itemLevels s ≡ true → Reads itemOf s 0 v p → p ≡ length s → itemIn s ≡ item v
-  is-item e r at-end = let w = whole-term itemBytes itemLevels s e in of-term (w .0) e (w .1) ∙ ap shaped (decoded itemOf (w .0) (w .1) r at-end)
+  is-item e r at-end = let w = whole-term s e in of-term s (w .0) e (w .1) ∙ ap shaped (decoded itemOf (w .0) (w .1) r at-end)
 
   pub no-item : {v : Item} {p : ℕ} → wholeOf itemBytes itemLevels s ≡ true → Reads itemOf s 0 v p → (p ≡ length s → ⊥) → itemIn s ≡ unread BadShape
-  no-item e r elsewhere = let w = whole-term itemBytes itemLevels s e in of-term (w .0) e (w .1) ∙ ap shaped (refused itemOf (w .0) (w .1) r elsewhere)
+  no-item e r elsewhere = let w = whole-term s e in of-term s (w .0) e (w .1) ∙ ap shaped (refused itemOf (w .0) (w .1) r elsewhere)

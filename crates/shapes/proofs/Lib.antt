@@ -1,3 +1,4 @@
--- Every number of an item that was read is in its range, by what its decoders yield.
-pub mod Yields
+-- What is read as the parts that items and events share; which texts are read as an item, and that every number of one is in its range.
+pub mod Parts
+pub mod Texts
 pub mod Ranges

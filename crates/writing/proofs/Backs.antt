@@ -1,16 +1,15 @@
 -- What goes out is read back, message by message: a law for each part.
 use mathlib.Core.Path.{_≡_, refl, sym, ap, subst, _∙_}
 use mathlib.Core.Bool.{Bool, true, false, cond}
-use mathlib.Core.List.{List, [], _∷_, append-nil}
+use mathlib.Core.List.{List, [], _∷_}
 use mathlib.Core.Option.{some}
 use Prim.Native.Nat.{ℕ}
 use native.Mathlib.Omega.{arith}
 use Rattle.sorted.specs.Table.{All}
 use Rattle.csexp.specs.Text.{text}
 use Rattle.csexp.specs.Term.{Terms, nil, cons, atom, list, write}
-use Rattle.csexp.specs.Read.{got, read}
 use Rattle.csexp.specs.Decode.{same, means, maps, word, atomOf}
-use Rattle.csexp.proofs.Meaning.{read-complete}
+use Rattle.csexp.proofs.Meaning.{read-written}
 use Rattle.csexp.specs.Encode.{numberTerm, labelled, joins}
 use Rattle.csexp.proofs.write.Backs.{Each, each-none, each-more, Gives, Holds, Denies, in-list, then-one, at-end, first-of, second-of, by-maps, no-maps, no-list, is-vacant, is-filled, is-there, is-other, is-last, is-word, is-means, no-means, no-begin, is-number, no-number, is-labelled, is-optional, all-back}
 use Rattle.shapes.specs.Nouns.{Protocol, Plain, Secure, Fragment, Absent, Named, Url, Origin, CookieName, Pair, Jar, Method, Get, Head, Post, Put, Delete, Connect, Options, Trace, OriginHeader, Unsent, Null, From, Referrer, Unknown, Known, Request}
@@ -189,9 +188,7 @@ sent-back (sealed a k q) i =
 
 -- So does reading its text,
 pub text-back : (m : Message) → MessageIn m → sentIn (write (eventOf m)) ≡ some m
-text-back m i =
-    let all : read (write (eventOf m)) ≡ got (eventOf m) [] = ap read (sym (append-nil (write (eventOf m)))) ∙ read-complete (eventOf m) [] in
-    ap whole all ∙ sent-back m i .is
+text-back m i = ap whole (read-written (eventOf m)) ∙ sent-back m i .is
 
 -- and two messages with one text are one.
 pub text-settles : (m n : Message) → MessageIn m → MessageIn n → write (eventOf m) ≡ write (eventOf n) → m ≡ n

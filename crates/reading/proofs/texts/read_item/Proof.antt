@@ -2,8 +2,9 @@
 use mathlib.Core.Path.{sym, ap, _∙_}
 use borrow.Author.Needs.{needs}
 use borrow.Author.Tests.{not-true, not-false}
+use Rattle.shapes.proofs.Texts.{no-text}
 use Rattle.reading.specs.Readings.{readingOf}
-use Rattle.reading.proofs.Takings.{no-text, is-item, no-item}
+use Rattle.reading.proofs.Takings.{is-item, no-item}
 use Rattle.reading.proofs.texts.read_item.Statement.{statement}
 use Rattle.reading.proofs.texts.read_item.Tie as tie
 
