@@ -251,7 +251,7 @@ def verdicts(crate, edits, jobs):
 
 def tried(crate, edits, jobs):
     """The name, the verdict and the reason of each edit of a crate."""
-    if len(lots_of(edits, two_proofs)) > 3 and not prepared(crate):
+    if len(edits) > 1 and not prepared(crate):
         sys.exit(f"{crate} is not proved as it stands")
     controls = {edit: edit.control() for edit in edits if edit.control()}
     told = verdicts(crate, edits + list(controls.values()), jobs)
@@ -272,8 +272,8 @@ def fact(error):
     found = re.match(r"fn \w+::(\S+): no proof.*does not close (.*)", text)
     if found:
         return f"{found[1]}: what it ensures is not shown ({found[2]})"
-    found = re.match(r"\w+/proofs/(?:(\S+)/)?(\S+)\.antt:\d+:\d+: error: `([^`]*)`: (.*)", text)
-    place, text = (f"`{found[3]}`: ", found[4]) if found else ("", text)
+    found = re.match(r"(?:note: )?\S+:\d+:\d+: (?:error: `([^`]*)`: )?(.*)", text)
+    place, text = (f"`{found[1]}`: " if found[1] else "", found[2]) if found else ("", text)
     for pattern, words in REASONS:
         part = re.search(pattern, text)
         if part:
