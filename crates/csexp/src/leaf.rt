@@ -142,7 +142,7 @@ fn equal(a: &[u8], b: &[u8]) -> bool
     true
 }
 
-// The atom whose bytes are w.
+// The atom whose bytes are w. No atom and an empty w have the same bytes, none; its end, past the text, says then that it is not there.
 pub fn word(s: &[u8], at: usize, w: &[u8]) -> usize
     ensures { λ r. ⌜ Reads (word (now (w .entry))) (now (s .entry)) at tt r ⌝ }
 {
