@@ -3,7 +3,8 @@ use mathlib.Core.Path.{_≡_}
 use mathlib.Core.Bool.{false}
 use mathlib.Core.List.{List}
 use Prim.Native.Nat.{ℕ, _≤_}
-use lib.ListN.{length, take}
+use lib.ListN.{length}
+use Rattle.types.specs.Lists.{cookiesIn, headerPairs}
 use Rattle.sorted.specs.Table.{All, fill}
 use Rattle.shapes.specs.Nouns.{Fresh, Host, Address, Path, Fragment, Absent, Named, Url, Origin, CookieName, Cookie, Pair, SetCookies, Jar, OriginHeader, Unsent, Null, From, Referrer, Unknown, Known, Matching, Unmatched, By, Request, Target, NewWindow, Existing, Holder, Itself, Within, Addressee, Anyone, Only, Command, Nothing, Href, Iframe, Form, SetScript, SetScriptState, XmlHttpRequest, Back, Forward, Close, PostMessage, Status, Location, Nowhere, To, Body, Number, Page, Answer, DnsAnswer, Output, Event, RunScript, Urlbar, Reload, GoForward, GoBack, CloseCorrupt, EncryptedAnswer, PlainAnswer, DnsResolved, Item}
 use Rattle.shapes.specs.Words.{most16, most32}
@@ -68,8 +69,8 @@ pub record PairIn (p : Pair) : Type 0 where
 -- "At most four cookies in one answer or from one script step"; those past the count are blank
 pub record SetCookiesIn (cs : SetCookies) : Type 0 where
   pub few : cs .count ≤ 4
-  pub each : All CookieIn (take (cs .count) (cs .rows))
-  pub blank : cs .rows ≡ fill blankCookie 4 (take (cs .count) (cs .rows))
+  pub each : All CookieIn (cookiesIn cs)
+  pub blank : cs .rows ≡ fill blankCookie 4 (cookiesIn cs)
 
 -- COMMANDS.
 abbrev pub TargetIn : Target → Type 0
@@ -164,7 +165,7 @@ ReferrerIn (Known u) = UrlIn u
 
 -- a Cookie header's pairs, and the header with these pairs, blank behind them
 abbrev pub pairs : Request → List Pair
-pairs q = take (q .cookies .count) (q .cookies .rows)
+pairs q = headerPairs (q .cookies)
 
 abbrev pub blankPair : Pair
 blankPair = record { name = record { prefixed = false; number = 0 }; value = record { 0 = 0 } }
