@@ -33,7 +33,7 @@ REFUSED, ACCEPTED, WORTHLESS, BAD = "refused", "NOT REFUSED", "WORTHLESS", "BAD 
 WIDTH = 198
 
 # What the prover says where the proof's text does not fit, whatever holds.
-UNFIT = re.compile(r"has no field|not in scope|no occurrence of|needs a function \(or path\) type to bind|^\S+: error: `(?:Inv|μ)\b")
+UNFIT = re.compile(r"has no (?:field|`)|not in scope|no occurrence of|needs a function \(or path\) type to bind|^\S+: error: `(?:Inv|μ)\b")
 # What it says too where a fact of another form stands in the place of the one that is wanted: unfit, if it says nothing else.
 FOLLOWS = re.compile(r"is applied to an argument but has type|explicit arguments? more than|not yet determined")
 # Of the prover's own form of a function, what has a place in a proof.
