@@ -30,10 +30,10 @@ KIT = os.path.dirname(os.path.dirname(os.path.realpath(shutil.which("rt"))))
 OWN = f"{KIT}/on/{platform.machine()}"
 LISTED = {name: needs.split() for name, needs in (line.split("#")[0].split(":") for line in open(f"{TOP}/crates.txt") if ":" in line.split("#")[0])}
 REFUSED, ACCEPTED, WORTHLESS, BAD = "refused", "NOT REFUSED", "WORTHLESS", "BAD EDIT"
-WIDTH = 200
+WIDTH = 198
 
 # What the prover says where the proof's text does not fit, whatever holds.
-UNFIT = re.compile(r"has no field|not in scope|no occurrence of|needs a function \(or path\) type to bind|^\S+: error: `(?:Inv|μ)\b")
+UNFIT = re.compile(r"has no (?:field|`)|not in scope|no occurrence of|needs a function \(or path\) type to bind|^\S+: error: `(?:Inv|μ)\b")
 # What it says too where a fact of another form stands in the place of the one that is wanted: unfit, if it says nothing else.
 FOLLOWS = re.compile(r"is applied to an argument but has type|explicit arguments? more than|not yet determined")
 # Of the prover's own form of a function, what has a place in a proof.
@@ -251,7 +251,7 @@ def verdicts(crate, edits, jobs):
 
 def tried(crate, edits, jobs):
     """The name, the verdict and the reason of each edit of a crate."""
-    if len(edits) > 1 and not prepared(crate):
+    if len(edits) > 1 and not jobs.submit(prepared, crate).result():
         sys.exit(f"{crate} is not proved as it stands")
     controls = {edit: edit.control() for edit in edits if edit.control()}
     told = verdicts(crate, edits + list(controls.values()), jobs)
