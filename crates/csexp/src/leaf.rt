@@ -40,16 +40,18 @@ pub struct Natural {
     pub next: usize,
 }
 
+const NO_NUMBER: Natural = Natural {
+    value: 0,
+    next: LOST,
+};
+
 // A decimal number of at most `cap`: 0, or digits that begin with no 0.
 pub fn decimal(s: &[u8], at: usize, cap: usize) -> Natural
     ensures { λ r. ⌜ Counts cap (now (s .entry)) at (r .value) (r .next) ⌝ }
 {
     let f = digit(s, at);
     if f == 10 {
-        return Natural {
-            value: 0,
-            next: LOST,
-        };
+        return NO_NUMBER;
     }
     if f == 0 {
         return Natural {
@@ -58,10 +60,7 @@ pub fn decimal(s: &[u8], at: usize, cap: usize) -> Natural
         };
     }
     if cap < f {
-        return Natural {
-            value: 0,
-            next: LOST,
-        };
+        return NO_NUMBER;
     }
     let mut v = f;
     let mut i = at + 1;
@@ -71,16 +70,10 @@ pub fn decimal(s: &[u8], at: usize, cap: usize) -> Natural
             return Natural { value: v, next: i };
         }
         if cap / 10 < v {
-            return Natural {
-                value: 0,
-                next: LOST,
-            };
+            return NO_NUMBER;
         }
         if cap - v * 10 < d {
-            return Natural {
-                value: 0,
-                next: LOST,
-            };
+            return NO_NUMBER;
         }
         v = v * 10 + d;
         i += 1;
