@@ -54,14 +54,15 @@ fn any_line(line: &[u8], m: &mut Memory) {
     fill(m, bound.value as u32);
 }
 
-// A line that makes a memory is told as it stands.
+// A line that makes a memory is told as it stands. One that makes none is told to be so, and leaves the memory as it was.
 fn memory_line(line: &[u8], first: u8, m: &mut Memory) {
     word(line);
     word(b"\n");
     match first {
         b'a' => any_line(line, m),
         b'p' => put_line(line, m),
-        _ => rehearsal::make_empty(m),
+        b'e' => rehearsal::make_empty(m),
+        _ => word(b"not understood\n"),
     }
 }
 

@@ -3,6 +3,7 @@
 //     any BOUND                each of its numbers is made any that is less than the bound; any 1 makes them all 0
 //     put PLACE NUMBER         one of its numbers is put; the last, 10239, says whether the browser is closed
 //     SIZE PLACE NAME TEXT     a step on the text, with a buffer of so many dots and a place in it
+// Of a line that begins with another letter it says that it is not understood.
 mod memories; // how a memory is made
 mod comparing; // two memories, number for number
 mod telling; // what a step left
