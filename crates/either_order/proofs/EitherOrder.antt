@@ -15,11 +15,11 @@ use Rattle.wim.specs.Program.{Program, made, run}
 use Rattle.wim.specs.Main.{cookiesIn, program}
 use Rattle.wim.specs.Step.{freshLabels, fits, stepTables, Browser, declined, accepted, closes, concluded, step}
 use Rattle.wim.specs.LocalSteps.{isLocal, stands, hosts}
-use Rattle.wim.specs.Invariant.{Numbered, MadeTables, untouched, stepped}
+use Rattle.wim.specs.Invariant.{Numbered}
 use Rattle.invariant.proofs.Numbered.Fresh.{fresh-absent, admitted}
 use Rattle.invariant.proofs.Numbered.Steps.{made-numbered}
-use Rattle.invariant.proofs.Opened.{opened}
-use Rattle.either_order.specs.Statement.{Made, empty, next, EightFree, LocalStep, Apart, EitherOrder}
+use Rattle.invariant.proofs.Opened.{opened, made-tables}
+use Rattle.either_order.specs.Statement.{EightFree, LocalStep, Apart, EitherOrder}
 use Rattle.either_order.proofs.Part.{Level, Whole}
 use Rattle.either_order.proofs.Commute.{side, commute}
 use Rattle.either_order.proofs.Owned.{level-owned}
@@ -94,10 +94,6 @@ local-open CloseCorrupt l = never (cc)
 local-open (EncryptedAnswer k a) l = refl
 local-open (PlainAnswer a) l = refl
 local-open (DnsResolved a) l = refl
-
-pub made-tables : {b : Browser} → Made b → MadeTables (b .tables)
-made-tables empty = untouched
-made-tables (next {b = b} {c = c} i m r e) = stepped i m (made-tables r) (opened i b c m e .1)
 
 -- DEMAND 3.
 pub either-order : EitherOrder

@@ -2,9 +2,9 @@
 use mathlib.Core.Path.{_≡_}
 use mathlib.Core.List.{List}
 use Prim.Native.Nat.{ℕ}
+use Rattle.wim.specs.Step.{verdictNumber}
 use Rattle.rehearsal.specs.declared.telling.Rehearsed.{Rehearsed}
 use Rattle.rehearsal.specs.Rehearses.{Rehearses}
-use Rattle.rehearsal.specs.Verdicts.{verdictNumber}
 
 pub record Steps (text m out : List ℕ) (place number count : ℕ) (n out₂ : List ℕ) : Type 0 where
   pub told : Rehearsed

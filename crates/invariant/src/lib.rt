@@ -1,1 +1,1 @@
-// No code: that every accepted step keeps the invariant, as proofs alone.
+// No code: that every accepted step, of whatever item, keeps the tables numbered and rooted, as proofs alone.

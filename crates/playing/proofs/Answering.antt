@@ -20,13 +20,12 @@ use Rattle.types.specs.declared.refusals.Verdict.{Verdict}
 use Rattle.types.specs.declared.refusals.Verdict.the-variants.{Accepted, Refused}
 use Rattle.shapes.specs.Events.{Message, eventOf}
 use Rattle.shapes.specs.Texts.{Taken, unread, item, itemIn}
-use Rattle.wim.specs.Step.{missingNumber, refusalNumber, Browser, Result, declined, accepted}
+use Rattle.wim.specs.Step.{missingNumber, refusalNumber, verdictNumber, Browser, Result, declined, accepted}
 use Rattle.wim.specs.Run.{eventLine, line, lineOf, performed, after}
 use Rattle.wim.specs.Wire.{Returned, refusing, putInto, returning, rehearsing, rehearse}
 use Rattle.browser.specs.View.{browser}
 use Rattle.rehearsal.specs.declared.telling.Rehearsed.{Rehearsed}
 use Rattle.rehearsal.specs.Rehearses.{saying, Short, Rehearses}
-use Rattle.rehearsal.specs.Verdicts.{verdictNumber}
 use Rattle.playing.specs.declared.looking.Halt.the-variants.{Stopped}
 use Rattle.playing.specs.Lines.{unwritten, lineBytes, lastLine, Adds, Answered}
 use Rattle.playing.specs.Turns.{Turns}

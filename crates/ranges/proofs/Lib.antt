@@ -4,6 +4,7 @@ pub mod Shared
 pub mod Scripts
 pub mod Answers
 pub mod Steps
+pub mod Refuted
 pub mod Bounded
 pub mod Made
 pub mod OnTexts

@@ -11,24 +11,21 @@ use Rattle.writing.specs.Outgoing.{sentIn}
 use Rattle.writing.proofs.Backs.{text-back}
 use Rattle.wim.specs.Nouns.{Item}
 use Rattle.wim.specs.Step.{Browser, emptyBrowser, accepted, step}
-use Rattle.wim.specs.Invariant.{InRange, Sound, MadeTables, untouched, stepped}
+use Rattle.wim.specs.Invariant.{InRange, Sound}
 use Rattle.wim.specs.Made.{RunsTo, begun, further}
-use Rattle.invariant.proofs.Opened.{opened}
+use Rattle.wim.proofs.Made.{runs-made}
+use Rattle.invariant.proofs.Opened.{opened, made-tables}
 use Rattle.invariant.proofs.Numbered.Steps.{made-numbered}
 use Rattle.invariant.proofs.Rooted.Made.{made-rooted}
 use Rattle.shapes.proofs.Ranges.{read-in-range}
 use Rattle.ranges.proofs.Steps.{in-range-empty, in-range-step}
-
-made-tables : {b : Browser} → RunsTo emptyBrowser b → MadeTables (b .tables)
-made-tables begun = untouched
-made-tables (further {c = b} {d = c} s i m r x e) = stepped i m (made-tables r) (opened i b c m e .1)
 
 pub made-in-range : {b : Browser} → RunsTo emptyBrowser b → InRange (b .tables)
 made-in-range begun = in-range-empty
 made-in-range (further {c = b} {d = c} s i m r x e) = in-range-step i (b .tables) (c .tables) m (read-in-range s i x) (made-in-range r) (opened i b c m e .1) .0
 
 pub made-sound : {b : Browser} → RunsTo emptyBrowser b → Sound (b .tables)
-made-sound r = record { numbered = made-numbered (made-tables r); rooted = made-rooted (made-tables r); inRange = made-in-range r }
+made-sound r = let made = made-tables (runs-made r) in record { numbered = made-numbered made; rooted = made-rooted made; inRange = made-in-range r }
 
 module _ (b c : Browser) (r : RunsTo emptyBrowser b) (s : List ℕ) (i : Item) (m : Message) (x : itemIn s ≡ item i) (e : step i b ≡ accepted c (some m)) where
   pub sends-in-range : MessageIn m

@@ -13,8 +13,8 @@ use Rattle.sorted.specs.Table.{keep, In, All, put, drop}
 use Rattle.sorted.proofs.Member.{in-keep, length-keep}
 use Rattle.sorted.proofs.Count.{take-fill}
 use Rattle.tables.specs.Tables.{windows, documents, cookies, localStorage, sessionStorage, inputs, pendingDNS, pendingRequests, isSecure, Tables}
-use Rattle.tables.specs.Rows.{sameWindow, sameDocument, sameHost, goesOver, pairOf, jar as cookieHeader, originOf, withActive, withState, withScript, changing, settingActive}
-use Rattle.shapes.specs.Ranges.{HostIn, ValueIn, NumberIn, UrlIn, OriginIn, CookieIn, PairIn, OutputIn, OriginHeaderIn, ReferrerIn, blankPair, jar, RequestIn}
+use Rattle.tables.specs.Rows.{sameWindow, sameDocument, sameHost, goesOver, pairOf, blankPair, jar, originOf, withActive, withState, withScript, changing, settingActive}
+use Rattle.shapes.specs.Ranges.{HostIn, ValueIn, NumberIn, UrlIn, OriginIn, CookieIn, PairIn, OutputIn, OriginHeaderIn, ReferrerIn, RequestIn}
 use Rattle.wim.specs.Nouns.{WindowNumber, DocumentNumber, Host, Url, Origin, Cookie, Pair, Cancelled, Bare, Sending, Referrer, Unknown, Known, Policy, Unset, NoReferrer, OriginOnly, Script, ScriptState, Stored, Output, Document, HostCookie, Stopped}
 use Rattle.wim.specs.Walks.{Removal, activeAmong}
 use Rattle.wim.specs.Cookies.{storeAll}
@@ -48,8 +48,8 @@ pairs-in : (l : List HostCookie) → ((r : HostCookie) → In r l → HostCookie
 pairs-in [] h = tt
 pairs-in (r ∷ l) h = (record { name = h r (inl refl) .cookie .name; value = h r (inl refl) .cookie .value }, pairs-in l (λ x i. h x (inr i)))
 
-request-in : (o : Sending) → SendingIn o → (ps : List Pair) → length ps ≤ 64 → All PairIn ps → (n : ℕ) → NumberIn n → RequestIn (requestOf o (cookieHeader ps) n)
-unfolding cookieHeader
+request-in : (o : Sending) → SendingIn o → (ps : List Pair) → length ps ≤ 64 → All PairIn ps → (n : ℕ) → NumberIn n → RequestIn (requestOf o (jar ps) n)
+unfolding jar
 request-in o i ps few each n k =
     let e : take (length ps) (jar ps .rows) ≡ ps = take-fill blankPair 64 ps few in
     record {
@@ -67,7 +67,7 @@ request-in o i ps few each n k =
 
 -- the address is turned to S for an STS host
 question-in : (o : Sending) → SendingIn o → (ps : List Pair) → length ps ≤ 64 → All PairIn ps → (q n : ℕ) → NumberIn q → NumberIn n → (sts : Bool)
-    → QuestionIn (questionOf o (cond sts (secured (o .url)) (o .url)) (cookieHeader ps) q n)
+    → QuestionIn (questionOf o (cond sts (secured (o .url)) (o .url)) (jar ps) q n)
 question-in o i ps few each q n j k true = record {
   number = k;
   reference = i .reference;
@@ -91,7 +91,7 @@ ranged-send o i = record { ends = ends }
         let kept = length-keep goes (b cookies) in
         let same = length-map (keep goes (b cookies)) pairOf in
         let each = pairs-in (keep goes (b cookies)) (λ r x. I .rows cookies r (in-keep goes (b cookies) r x .0)) in
-        (edited-in pendingDNS (put (questionOf o url (cookieHeader ps) q n) ∷ []) b (question-in o i ps (omega arith) each q n j k sts, tt) I, (i .url .host, k))
+        (edited-in pendingDNS (put (questionOf o url (jar ps) q n) ∷ []) b (question-in o i ps (omega arith) each q n j k sts, tt) I, (i .url .host, k))
 
 -- CANCELNAV, and what goes with documents: rows are taken away.
 pub ranged-cancel : (c : Cancelled) (p : Program) → Ranged p → Ranged (cancelNav c p)

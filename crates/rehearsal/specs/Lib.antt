@@ -1,4 +1,3 @@
 -- What a step on text gives, and the numbers of its verdicts.
-pub mod Verdicts
 pub mod Writes
 pub mod Rehearses

@@ -2,8 +2,7 @@
 use types::refusals::Refusal;
 use types::refusals::Verdict;
 ghost use mathlib.Core.Path.{_≡_};
-ghost use Rattle.wim.specs.Step.{refusalNumber};
-ghost use Rattle.rehearsal.specs.Verdicts.{verdictNumber};
+ghost use Rattle.wim.specs.Step.{refusalNumber, verdictNumber};
 
 fn refusal_number(why: Refusal) -> u32
     ensures { λ r. ⌜ r ≡ refusalNumber why ⌝ }

@@ -1,12 +1,12 @@
 -- Ranges: the numbers of every noun that an item or a message is made of (01 "Numbers, names, sizes").
 use mathlib.Core.Path.{_≡_}
-use mathlib.Core.Bool.{false}
 use mathlib.Core.List.{List}
 use Prim.Native.Nat.{ℕ, _≤_}
 use lib.ListN.{length}
 use Rattle.types.specs.Lists.{cookiesIn, headerPairs}
 use Rattle.sorted.specs.Table.{All, fill}
-use Rattle.shapes.specs.Nouns.{Fresh, Host, Address, Path, Fragment, Absent, Named, Url, Origin, CookieName, Cookie, Pair, SetCookies, Jar, OriginHeader, Unsent, Null, From, Referrer, Unknown, Known, Matching, Unmatched, By, Request, Target, NewWindow, Existing, Holder, Itself, Within, Addressee, Anyone, Only, Command, Nothing, Href, Iframe, Form, SetScript, SetScriptState, XmlHttpRequest, Back, Forward, Close, PostMessage, Status, Location, Nowhere, To, Body, Number, Page, Answer, DnsAnswer, Output, Event, RunScript, Urlbar, Reload, GoForward, GoBack, CloseCorrupt, EncryptedAnswer, PlainAnswer, DnsResolved, Item}
+use Rattle.tables.specs.Rows.{jar}
+use Rattle.shapes.specs.Nouns.{Fresh, Host, Address, Path, Fragment, Absent, Named, Url, Origin, CookieName, Cookie, Pair, SetCookies, OriginHeader, Unsent, Null, From, Referrer, Unknown, Known, Matching, Unmatched, By, Request, Target, NewWindow, Existing, Holder, Itself, Within, Addressee, Anyone, Only, Command, Nothing, Href, Iframe, Form, SetScript, SetScriptState, XmlHttpRequest, Back, Forward, Close, PostMessage, Status, Location, Nowhere, To, Body, Number, Page, Answer, DnsAnswer, Output, Event, RunScript, Urlbar, Reload, GoForward, GoBack, CloseCorrupt, EncryptedAnswer, PlainAnswer, DnsResolved, Item}
 use Rattle.shapes.specs.Words.{most16, most32}
 use Rattle.shapes.specs.Items.{blankCookie}
 use Rattle.shapes.specs.Events.{Message, resolve, unsealed, sealed}
@@ -163,15 +163,9 @@ abbrev pub ReferrerIn : Referrer → Type 0
 ReferrerIn Unknown = Unit {0}
 ReferrerIn (Known u) = UrlIn u
 
--- a Cookie header's pairs, and the header with these pairs, blank behind them
+-- a Cookie header's pairs
 abbrev pub pairs : Request → List Pair
 pairs q = headerPairs (q .cookies)
-
-abbrev pub blankPair : Pair
-blankPair = record { name = record { prefixed = false; number = 0 }; value = record { 0 = 0 } }
-
-abbrev pub jar : List Pair → Jar
-jar ps = record { rows = fill blankPair 64 ps; count = length ps }
 
 -- Cookie "never has more cookies than the cookie table has rows for"
 pub record RequestIn (q : Request) : Type 0 where

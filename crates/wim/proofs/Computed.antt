@@ -73,6 +73,7 @@ computed = record {
     href-cancels = refl;
     methods-refused = refl;
     closing-keeps = refl;
+    closing-keeps-cookies = refl;
     shown-in-frame = refl;
     shown-over-s = refl;
     not-shown = refl;

@@ -54,7 +54,7 @@ module _ (ws : List Window) (ds : List Document) (w : WindowNumber) where
         × ((x : Window) → find (λ (r : Window). mayNavigate ws ds (originOf d) w (r .number)) ws ≡ some (getD ws (trailingZeros k (navigableMask ws ds w)) x))
     navigable-first k l n = rw displayed-mask (mask-first (mayNavigate ws ds (originOf d) w) ws k l (rw displayed-mask at n))
 
-  -- "The set of an unreached window" and of one without a document "is 0".
+  -- of an unreached window, and of one without a document, it is 0 (DECISIONS 29)
   pub unreached-none : isReached ws ds w ≡ false → navigableMask ws ds w ≡ 0
   unfolding navigableMask
   unreached-none e = rw e

@@ -1,4 +1,4 @@
--- Cookies: which are sent, which a script may set, which an answer may set (000 Definitions 14, 36 and 37; RFC 6265 where it is silent).
+-- Cookies: which a script may set, which an answer may set (000 Definitions 36 and 37; RFC 6265 where it is silent).
 use mathlib.Core.Bool.{Bool, false, cond, not, _&&_, _||_}
 use mathlib.Core.List.{List, [], _∷_, map}
 use Rattle.sorted.specs.Table.{keep, put}

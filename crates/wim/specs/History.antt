@@ -1,4 +1,4 @@
--- 000 Algorithms 5 and 6, NAVBACK and NAVFORWARD; and how a document's fields are set.
+-- 000 Algorithms 5 and 6, NAVBACK and NAVFORWARD.
 use mathlib.Core.Bool.{true, false}
 use mathlib.Core.List.{List}
 use mathlib.Core.Option.{Option, none, some}

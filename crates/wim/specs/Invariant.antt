@@ -1,4 +1,4 @@
--- What holds of every browser that accepted steps have made from the empty one (R-1's reader will ask the same of a file).
+-- What holds of the tables that accepted steps have made from empty ones: of whatever items numbered and rooted, of items that were read in range too.
 use mathlib.Core.Path.{_≡_}
 use mathlib.Core.Logic.{_⊎_}
 use mathlib.Core.Bool.{true}

@@ -21,7 +21,7 @@ newOrOwn w NewWindow = true
 newOrOwn w (Existing x) = sameWindow x w
 
 abbrev pub ownHolder : WindowNumber → Holder → Bool
-ownHolder w Itself = true
+ownHolder w Itself = true  -- _SELF means that window (DECISIONS 39)
 ownHolder w (Within x) = sameWindow x w
 
 -- "script steps whose command is nothing, XMLHTTPREQUEST, or" one of these, "or HREF to a new one"

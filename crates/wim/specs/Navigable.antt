@@ -77,7 +77,7 @@ abbrev pub maskOf : (WindowNumber → Bool) → List Window → ℕ
 maskOf p [] = 0
 maskOf p (r ∷ rs) = bit (p (r .number)) + 2 * maskOf p rs
 
--- "The set of an unreached window" and of one without a document "is 0".
+-- of an unreached window, and of one without a document, it is 0 (DECISIONS 29)
 abbrev pub whenDisplayed : {A : Type 0} → A → Bool → Option Document → (Origin → A) → A
 whenDisplayed {A} x false d f = x
 whenDisplayed {A} x true none f = x

@@ -9,7 +9,8 @@ use Rattle.sorted.specs.Table.{put, drop, sift}
 use Rattle.tables.specs.Tables.{windows, documents, cookies, localStorage, sessionStorage, inputs, Edits, isSecure}
 use Rattle.tables.specs.Labels.{window}
 use Rattle.tables.specs.Rows.{oneOf, windowOneOf, originOf, sameOrigin, withState, withScript, changing}
-use Rattle.wim.specs.Nouns.{WindowNumber, DocumentNumber, Url, Origin, Parameters, Cookie, Method, Get, Head, Post, Put, Delete, Connect, Options, Trace, Data, OriginHeader, Unsent, From, Known, Policy, NoReferrer, Reference, Req, Xhr, Labelled, Sending, Target, NewWindow, Existing, Holder, Itself, Within, Addressee, Anyone, Only, Command, Nothing, Href, Iframe, Form, SetScript, SetScriptState, XmlHttpRequest, Back, Forward, Close, PostMessage, Stored, Output, Top, Under, Opener, Nobody, OpenedBy, Window, Document, Input, News, Posted, NoWindow, NoDocument}
+use Rattle.shapes.specs.Words.{rowOf}
+use Rattle.wim.specs.Nouns.{WindowNumber, DocumentNumber, Url, Origin, Parameters, Cookie, Method, Get, Head, Post, Connect, Trace, Data, OriginHeader, Unsent, From, Known, Policy, NoReferrer, Reference, Req, Xhr, Labelled, Sending, Target, NewWindow, Existing, Holder, Itself, Within, Addressee, Anyone, Only, Command, Nothing, Href, Iframe, Form, SetScript, SetScriptState, XmlHttpRequest, Back, Forward, Close, PostMessage, Stored, Output, Top, Under, Opener, Nobody, OpenedBy, Window, Document, Input, News, Posted, NoWindow, NoDocument}
 use Rattle.wim.specs.Walks.{Removal}
 use Rattle.wim.specs.Cookies.{cookieMerge, storeAll}
 use Rattle.wim.specs.Program.{Program, ask, edit, revise, bring, done, reached, active, history, navigated, ofOrigin, arrived, under, cookiesOf, needs, stopIf, _>>=_, _>>_}
@@ -19,20 +20,10 @@ use Rattle.wim.specs.History.{navBack, navForward}
 abbrev pub noData : Data
 noData = record { 0 = 0 }
 
--- methods are told apart by a number of their own
-abbrev pub methodNumber : Method → ℕ
-methodNumber Get = 0
-methodNumber Head = 1
-methodNumber Post = 2
-methodNumber Put = 3
-methodNumber Delete = 4
-methodNumber Connect = 5
-methodNumber Options = 6
-methodNumber Trace = 7
-
+-- methods are told apart by their place among the eight
 abbrev pub oneOfMethods : Method → List Method → Bool
 oneOfMethods m [] = false
-oneOfMethods m (x ∷ xs) = eqb (methodNumber m) (methodNumber x) || oneOfMethods m xs
+oneOfMethods m (x ∷ xs) = eqb (rowOf m) (rowOf x) || oneOfMethods m xs
 
 -- ALGORITHM 1, GETNAVIGABLEWINDOW, lines 9 and 10: the window with the number if it is navigable, otherwise the script's own
 abbrev pub getNavigableWindow : WindowNumber → Document → WindowNumber → (WindowNumber → Program) → Program

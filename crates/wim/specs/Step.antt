@@ -5,6 +5,8 @@ use mathlib.Core.Option.{Option}
 use Prim.Native.Nat.{ℕ}
 use lib.Dec.{leb, eqb}
 use lib.ListN.{length}
+use Rattle.types.specs.declared.refusals.Verdict.{Verdict}
+use Rattle.types.specs.declared.refusals.Verdict.the-variants.{Accepted, Refused}
 use Rattle.tables.specs.Tables.{Table, cap, Tables, noRows}
 use Rattle.tables.specs.Labels.{window, request, dns, key, document, Label, every, isFresh}
 use Rattle.shapes.specs.Events.{Message}
@@ -29,6 +31,11 @@ refusalNumber NotFresh = 5
 refusalNumber Full = 6
 refusalNumber NoRoom = 7
 refusalNumber Closed = 8
+
+-- the number of a verdict: that of the refusal, and 0 where the step was accepted
+abbrev pub verdictNumber : Verdict → ℕ
+verdictNumber Accepted = 0
+verdictNumber (Refused why) = refusalNumber why
 
 -- A browser: nine tables, and open or closed (000 Definition 33: isCorrupted).
 pub record Browser : Type 0 where

@@ -14,7 +14,8 @@ use Rattle.csexp.specs.Encode.{numberTerm, labelled, joins}
 use Rattle.csexp.proofs.write.Backs.{Each, each-none, each-more, Gives, Holds, Denies, in-list, then-one, at-end, first-of, second-of, by-maps, no-maps, no-list, is-vacant, is-filled, is-there, is-other, is-last, is-word, is-means, no-means, no-begin, is-number, no-number, is-labelled, is-optional, all-back}
 use Rattle.shapes.specs.Nouns.{Protocol, Plain, Secure, Fragment, Absent, Named, Url, Origin, CookieName, Pair, Jar, Method, Get, Head, Post, Put, Delete, Connect, Options, Trace, OriginHeader, Unsent, Null, From, Referrer, Unknown, Known, Request}
 use Rattle.shapes.specs.Items.{protocolOf, fragmentOf, urlOf, originOf, nameOf, methodOf, headerOf}
-use Rattle.shapes.specs.Ranges.{FragmentIn, UrlIn, NameIn, PairIn, OriginIn, OriginHeaderIn, ReferrerIn, pairs, jar, RequestIn, MessageIn}
+use Rattle.tables.specs.Rows.{jar}
+use Rattle.shapes.specs.Ranges.{FragmentIn, UrlIn, NameIn, PairIn, OriginIn, OriginHeaderIn, ReferrerIn, pairs, RequestIn, MessageIn}
 use Rattle.shapes.specs.Events.{protocolTerm, fragmentTerm, urlTerm, methodTerm, nameTerm, pairTerm, originTerm, originHeader, refererHeader, headersTerm, requestTerm, Message, resolve, unsealed, sealed, eventOf}
 use Rattle.writing.specs.Outgoing.{pairOf, originHeaderOf, behindCookie, headersOf, requestOf, sentOf, whole, sentIn}
 

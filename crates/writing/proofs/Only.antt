@@ -23,7 +23,8 @@ use Rattle.csexp.proofs.write.Only.{GivesOnly, HoldsOnly, gives-so, holds-so, o
 use Rattle.shapes.specs.Nouns.{Pair, Jar, OriginHeader, Unsent, Null, From, Referrer, Unknown, Known, Request}
 use Rattle.shapes.specs.Words.{most16}
 use Rattle.shapes.specs.Items.{urlOf, headerOf}
-use Rattle.shapes.specs.Ranges.{Between, PairIn, OriginHeaderIn, ReferrerIn, blankPair, jar, RequestIn, MessageIn}
+use Rattle.tables.specs.Rows.{blankPair, jar}
+use Rattle.shapes.specs.Ranges.{Between, PairIn, OriginHeaderIn, ReferrerIn, RequestIn, MessageIn}
 use Rattle.shapes.proofs.Parts.{number-only, optional-only, labelled-only, url-only, origin-only, name-only, method-only, header-only}
 use Rattle.shapes.specs.Events.{pairTerm, cookieHeader, originHeader, refererHeader, requestTerm, eventTerm, Message, eventOf}
 use Rattle.writing.specs.Outgoing.{pairOf, Carried, behindCookie, headersOf, requestOf, sealedOf, questionOf, messageTo, sentOf, whole, sentIn}
@@ -47,6 +48,7 @@ pairs-only n =
 
 cookies-only : {P : Term → List Pair → Type 0} → ((ps : List Pair) → length ps ≤ 64 → All PairIn ps → P (cookieHeader (jar ps)) ps)
     → GivesOnly (headerOf (text "Cookie") (inside (upTo 64 pairOf))) P
+unfolding jar
 cookies-only {P} p =
     header-only _ (only-inside (holds-so (pairs-only 64) λ ts ps h.
     subst (λ (us : Terms). P (list (cons (atom (text "Cookie")) (cons (list us) nil))) ps)
@@ -78,6 +80,7 @@ headers-only p = only-inside (only-one _ (cookies-only λ ps few all. behind-onl
 
 -- REQUESTS.
 request-only : {P : Term → Request → Type 0} → ((q : Request) → RequestIn q → P (requestTerm q) q) → GivesOnly requestOf P
+unfolding jar
 request-only p =
     only-inside
     (only-one _ (only-word _

@@ -8,11 +8,11 @@ use Rattle.csexp.specs.Text.{text}
 use Rattle.csexp.specs.Term.{Term}
 use Rattle.csexp.specs.Read.{Got, no, got, read}
 use Rattle.csexp.specs.Decode.{Decoder, Fields, inside, one, end, upTo, perhaps, either, maps, word, means, numeral, optionalOf, labelledOf}
+use Rattle.tables.specs.Rows.{jar}
 use Rattle.shapes.specs.Nouns.{KeyNumber, Pair, Jar, OriginHeader, Unsent, Null, From, Referrer, Unknown, Known, Request}
 use Rattle.shapes.specs.Words.{most16, most32}
 use Rattle.shapes.specs.Items.{urlOf, originOf, nameOf, methodOf, headerOf}
 use Rattle.shapes.specs.Events.{Message, resolve, unsealed, sealed}
-pub use Rattle.shapes.specs.Ranges.{blankPair, jar}
 
 -- (name value)
 abbrev pub pairOf : Decoder Pair

@@ -9,7 +9,7 @@ use Rattle.sorted.specs.Table.{keep}
 use Rattle.tables.specs.Tables.{windows, documents, cookies, localStorage, sessionStorage, inputs, pendingDNS, pendingRequests, sts, Tables}
 use Rattle.csexp.specs.Text.{text}
 use Rattle.csexp.specs.Term.{decimal, write}
-use Rattle.wim.specs.Nouns.{Plain, Fragment, Absent, Named, Method, Get, Head, Post, Put, Delete, Connect, Options, Trace, Unmatched, By, Existing, Nothing, Href, SetScript, SetScriptState, XmlHttpRequest, Nowhere, To, Number, Page, Event, Reload, CloseCorrupt, EncryptedAnswer, PlainAnswer, Window, Document, SessionValue, News, Answered, Posted, Input, Question, Waiting}
+use Rattle.wim.specs.Nouns.{Plain, Fragment, Absent, Named, Method, Get, Head, Post, Put, Delete, Connect, Options, Trace, Unmatched, By, Existing, Nothing, Href, SetScript, SetScriptState, XmlHttpRequest, Nowhere, To, Number, Page, Event, Reload, CloseCorrupt, EncryptedAnswer, PlainAnswer, Window, Document, HostCookie, SessionValue, News, Answered, Posted, Input, Question, Waiting}
 use Rattle.wim.specs.Step.{refusalNumber}
 use Rattle.wim.specs.Shown.{Shown, hidden, shown, whatIsShown}
 use Rattle.wim.specs.Points.SmallBrowser.{address, plain, smallBrowser, storing, script, answer, fresh, noneBrought, asking, after, refusal}
@@ -26,8 +26,11 @@ abbrev pub stateStored : ℕ → List (ℕ × ℕ)
 stateStored w = statesAfter (script w Nothing)
 
 -- window 1's script sets 9 in a window, as script or as script state
-abbrev pub scriptSet : ℕ → List ℕ
-scriptSet x = map (λ (d : Document). d .number .0) (keep (λ (d : Document). ltb 0 (d .script .0)) (after (script 1 (SetScript (record { 0 = x }) (record { 0 = 9 }))) noneBrought documents))
+abbrev numberAndScript : Document → ℕ × ℕ
+numberAndScript d = (d .number .0, d .script .0)
+
+abbrev pub scriptSet : ℕ → List (ℕ × ℕ)
+scriptSet x = map numberAndScript (keep (λ (d : Document). ltb 0 (d .script .0)) (after (script 1 (SetScript (record { 0 = x }) (record { 0 = 9 }))) noneBrought documents))
 
 abbrev pub stateSet : ℕ → List (ℕ × ℕ)
 stateSet x = statesAfter (script 1 (SetScriptState (record { 0 = x }) (record { 0 = 9 })))
@@ -73,8 +76,11 @@ answering n = after (PlainAnswer (answer n 200 Nowhere (Number 3))) noneBrought
 abbrev pub answered : ℕ → List Input
 answered n = answersIn (answering n)
 
-abbrev pub stillWaiting : ℕ → ℕ
-stillWaiting n = length (answering n pendingRequests)
+abbrev requestsIn : Tables → List ℕ
+requestsIn b = map (λ (w : Waiting). w .request .number .0) (b pendingRequests)
+
+abbrev pub stillWaiting : ℕ → List ℕ
+stillWaiting n = requestsIn (answering n)
 
 -- the session values after a window's script has stored 9
 abbrev pub storedBy : ℕ → List SessionValue
@@ -82,7 +88,7 @@ storedBy w = after (storing w 9 Nothing) noneBrought sessionStorage
 
 -- the questions and the requests that wait, by number
 abbrev pub waitingAfter : Event → List ℕ × List ℕ
-waitingAfter e = (map (λ (q : Question). q .number .0) (after e asking pendingDNS), map (λ (w : Waiting). w .request .number .0) (after e asking pendingRequests))
+waitingAfter e = (map (λ (q : Question). q .number .0) (after e asking pendingDNS), requestsIn (after e asking))
 
 abbrev pub xhrRefusal : Method → ℕ
 xhrRefusal m = refusal (script 1 (XmlHttpRequest (plain 5) m (record { 0 = 0 }) Unmatched)) asking
@@ -95,7 +101,13 @@ shownText (shown t) = write t
 abbrev pub shownIn : ℕ → List ℕ
 shownIn w = shownText (whatIsShown (record { tables = smallBrowser; closed = false }) (record { 0 = w }))
 
--- how many rows each table has
+-- the browser after it was closed: which cookies it has, and how many rows each table
+abbrev pub afterClosing : Tables
+afterClosing = after CloseCorrupt noneBrought
+
+abbrev pub cookieNumber : HostCookie → ℕ
+cookieNumber r = r .cookie .name .number
+
 abbrev pub counts : Tables → List ℕ
 counts b =
     length (b windows)
@@ -114,7 +126,7 @@ pub record Guards : Type 0 where
   -- A7:14: in the active document of the window that the script runs in
   pub state-stored : map stateStored (1 ∷ 2 ∷ 3 ∷ 5 ∷ []) ≡ ((11, 7) ∷ []) ∷ ((21, 7) ∷ []) ∷ ((31, 7) ∷ []) ∷ ((51, 7) ∷ []) ∷ []
   -- A2, A7:52 to 59: into its own window, a reached one of its origin, one of another origin, an unreached one, one that isn't there
-  pub script-set : map scriptSet (1 ∷ 2 ∷ 3 ∷ 4 ∷ 9 ∷ []) ≡ (11 ∷ []) ∷ (21 ∷ []) ∷ (11 ∷ []) ∷ (11 ∷ []) ∷ (11 ∷ []) ∷ []
+  pub script-set : map scriptSet (1 ∷ 2 ∷ 3 ∷ 4 ∷ 9 ∷ []) ≡ ((11, 9) ∷ []) ∷ ((21, 9) ∷ []) ∷ ((11, 9) ∷ []) ∷ ((11, 9) ∷ []) ∷ ((11, 9) ∷ []) ∷ []
   -- the state that the script puts out, 7, is stored first
   pub state-set : map stateSet (1 ∷ 2 ∷ 3 ∷ 4 ∷ 9 ∷ []) ≡ ((11, 9) ∷ []) ∷ ((11, 7) ∷ (21, 9) ∷ []) ∷ ((11, 9) ∷ []) ∷ ((11, 9) ∷ []) ∷ ((11, 9) ∷ []) ∷ []
   -- A8:13, 14: the Location's own fragment, otherwise that of the request's address, if there is one; the document keeps it
@@ -130,7 +142,7 @@ pub record Guards : Type 0 where
   pub answer-filed : answered 8 ≡ record { document = record { 0 = 11 }; arrival = 2; news = Answered (By 4) (Number 3) } ∷ []
   pub answer-lost : map answered (9 ∷ 10 ∷ 11 ∷ []) ≡ [] ∷ [] ∷ [] ∷ []
   -- which waits no longer, whatever becomes of its answer
-  pub answer-taken : map stillWaiting (8 ∷ 9 ∷ 10 ∷ 11 ∷ []) ≡ 9 ∷ 9 ∷ 9 ∷ 9 ∷ []
+  pub answer-taken : map stillWaiting (8 ∷ 9 ∷ 10 ∷ 11 ∷ []) ≡ (4 ∷ 5 ∷ 6 ∷ 7 ∷ 9 ∷ 10 ∷ 11 ∷ 12 ∷ 13 ∷ []) ∷ (4 ∷ 5 ∷ 6 ∷ 7 ∷ 8 ∷ 10 ∷ 11 ∷ 12 ∷ 13 ∷ []) ∷ (4 ∷ 5 ∷ 6 ∷ 7 ∷ 8 ∷ 9 ∷ 11 ∷ 12 ∷ 13 ∷ []) ∷ (4 ∷ 5 ∷ 6 ∷ 7 ∷ 8 ∷ 9 ∷ 10 ∷ 12 ∷ 13 ∷ []) ∷ []
   pub page-filed : answersIn (after (EncryptedAnswer (record { 0 = 2 }) (answer 13 200 Nowhere (Page (record { 0 = 1 }) (record { 0 = 2 })))) noneBrought) ≡ record { document = record { 0 = 51 }; arrival = 1; news = Answered Unmatched (Page (record { 0 = 1 }) (record { 0 = 2 })) } ∷ []
   -- A8:35 to 44: document 12 goes, and with it frame 4, its document and the message there
   pub later-windows : map (λ (w : Window). w .number .0) (loaded windows) ≡ 1 ∷ 2 ∷ 3 ∷ 5 ∷ []
@@ -144,7 +156,8 @@ pub record Guards : Type 0 where
   -- A7:61, 62: CONNECT and TRACE
   pub methods-refused : map xhrRefusal (Get ∷ Head ∷ Post ∷ Put ∷ Delete ∷ Connect ∷ Options ∷ Trace ∷ []) ≡ 0 ∷ 0 ∷ 0 ∷ 0 ∷ 0 ∷ 4 ∷ 0 ∷ 4 ∷ []
   -- A9:46 to 54: cookies that aren't of the session, local storage and STS stay
-  pub closing-keeps : counts (after CloseCorrupt noneBrought) ≡ 0 ∷ 0 ∷ 3 ∷ 1 ∷ 0 ∷ 0 ∷ 0 ∷ 0 ∷ 1 ∷ []
+  pub closing-keeps : counts afterClosing ≡ 0 ∷ 0 ∷ 3 ∷ 1 ∷ 0 ∷ 0 ∷ 0 ∷ 0 ∷ 1 ∷ []
+  pub closing-keeps-cookies : map cookieNumber (afterClosing cookies) ≡ 1 ∷ 3 ∷ 4 ∷ []
   -- Definition 35 and A7:2 to 9: of other origins only number and subwindows, every opener, secure cookies only over S, the session's value of the top-level window
   pub shown-in-frame : shownIn 2 ≡ text "((((6:window1:1)(((8:document2:11)(3:URL1:P1:51:7()())()()1:01:0((11:POSTMESSAGE(6:window1:5)(1:51:S)1:3))(((6:window1:2)(((8:document2:21)(3:URL1:P1:51:7()())()()1:01:0()()1:T))())((6:window1:3)(((8:document2:31)()))()))1:T))())((6:window1:5)(((8:document2:51)()))(6:window1:1)))(8:document2:21)1:0()((1:21:1))1:61:8)"
   pub shown-over-s : shownIn 5 ≡ text "((((6:window1:1)(((8:document2:11)(((6:window1:2)(((8:document2:21)()))())((6:window1:3)(((8:document2:31)()))()))))())((6:window1:5)(((8:document2:51)(3:URL1:S1:51:7()())()()1:01:0()()1:T))(6:window1:1)))(8:document2:51)1:0()((1:11:1)(1:21:1))()())"

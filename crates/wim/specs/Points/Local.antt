@@ -30,7 +30,7 @@ abbrev own : WindowNumber
 own = record { 0 = 1 }
 
 abbrev another : WindowNumber
-another = record { 0 = 2 }
+another = record { 0 = 5 }
 
 abbrev gone : WindowNumber
 gone = record { 0 = 9 }
@@ -60,38 +60,39 @@ localSteps =
     -- each command, to a new window, to its own, to another
     ∷ row (script 1 (Href (plain 7) NewWindow false)) true 1 (5 ∷ 7 ∷ []) ((window, 1) ∷ [])
     ∷ row (script 1 (Href (plain 7) (Existing own) false)) true 1 (5 ∷ 7 ∷ []) ((window, 1) ∷ (window, 1) ∷ [])
-    ∷ row (script 1 (Href (plain 7) (Existing another) false)) false 1 (5 ∷ 7 ∷ []) ((window, 1) ∷ (window, 2) ∷ [])
+    ∷ row (script 1 (Href (plain 7) (Existing another) false)) false 1 (5 ∷ 7 ∷ []) ((window, 1) ∷ (window, 5) ∷ [])
     ∷ row (script 1 (Iframe (plain 7) Itself)) true 1 (5 ∷ 7 ∷ []) ((window, 1) ∷ [])
     ∷ row (script 1 (Iframe (plain 7) (Within own))) true 1 (5 ∷ 7 ∷ []) ((window, 1) ∷ (window, 1) ∷ [])
-    ∷ row (script 1 (Iframe (plain 7) (Within another))) false 1 (5 ∷ 7 ∷ []) ((window, 1) ∷ (window, 2) ∷ [])
+    ∷ row (script 1 (Iframe (plain 7) (Within another))) false 1 (5 ∷ 7 ∷ []) ((window, 1) ∷ (window, 5) ∷ [])
     ∷ row (script 1 (Form (plain 7) Get (record { 0 = 0 }) NewWindow)) false 1 (5 ∷ 7 ∷ []) ((window, 1) ∷ [])
     ∷ row (script 1 (Form (plain 7) Get (record { 0 = 0 }) (Existing own))) true 1 (5 ∷ 7 ∷ []) ((window, 1) ∷ (window, 1) ∷ [])
-    ∷ row (script 1 (Form (plain 7) Get (record { 0 = 0 }) (Existing another))) false 1 (5 ∷ 7 ∷ []) ((window, 1) ∷ (window, 2) ∷ [])
+    ∷ row (script 1 (Form (plain 7) Get (record { 0 = 0 }) (Existing another))) false 1 (5 ∷ 7 ∷ []) ((window, 1) ∷ (window, 5) ∷ [])
     ∷ row (script 1 (XmlHttpRequest (plain 7) Get (record { 0 = 0 }) Unmatched)) true 1 (5 ∷ 7 ∷ []) ((window, 1) ∷ [])
     ∷ row (script 1 (SetScript own (record { 0 = 0 }))) false 1 (5 ∷ []) ((window, 1) ∷ (window, 1) ∷ [])
-    ∷ row (script 1 (SetScript another (record { 0 = 0 }))) false 1 (5 ∷ []) ((window, 1) ∷ (window, 2) ∷ [])
+    ∷ row (script 1 (SetScript another (record { 0 = 0 }))) false 1 (5 ∷ []) ((window, 1) ∷ (window, 5) ∷ [])
     ∷ row (script 1 (SetScriptState own (record { 0 = 0 }))) false 1 (5 ∷ []) ((window, 1) ∷ (window, 1) ∷ [])
-    ∷ row (script 1 (SetScriptState another (record { 0 = 0 }))) false 1 (5 ∷ []) ((window, 1) ∷ (window, 2) ∷ [])
+    ∷ row (script 1 (SetScriptState another (record { 0 = 0 }))) false 1 (5 ∷ []) ((window, 1) ∷ (window, 5) ∷ [])
     ∷ row (script 1 (Back own)) false 1 (5 ∷ []) ((window, 1) ∷ (window, 1) ∷ [])
-    ∷ row (script 1 (Back another)) false 1 (5 ∷ []) ((window, 1) ∷ (window, 2) ∷ [])
+    ∷ row (script 1 (Back another)) false 1 (5 ∷ []) ((window, 1) ∷ (window, 5) ∷ [])
     ∷ row (script 1 (Forward own)) false 1 (5 ∷ []) ((window, 1) ∷ (window, 1) ∷ [])
-    ∷ row (script 1 (Forward another)) false 1 (5 ∷ []) ((window, 1) ∷ (window, 2) ∷ [])
+    ∷ row (script 1 (Forward another)) false 1 (5 ∷ []) ((window, 1) ∷ (window, 5) ∷ [])
     ∷ row (script 1 (Close own)) false 1 (5 ∷ []) ((window, 1) ∷ (window, 1) ∷ [])
-    ∷ row (script 1 (Close another)) false 1 (5 ∷ []) ((window, 1) ∷ (window, 2) ∷ [])
+    ∷ row (script 1 (Close another)) false 1 (5 ∷ []) ((window, 1) ∷ (window, 5) ∷ [])
     ∷ row (script 1 (PostMessage own 0 Anyone)) false 1 (5 ∷ []) ((window, 1) ∷ (window, 1) ∷ [])
-    ∷ row (script 1 (PostMessage another 0 Anyone)) false 1 (5 ∷ []) ((window, 1) ∷ (window, 2) ∷ [])
+    ∷ row (script 1 (PostMessage another 0 Anyone)) false 1 (5 ∷ []) ((window, 1) ∷ (window, 5) ∷ [])
     -- the other triggers
     ∷ row (Urlbar NewWindow (plain 7)) false 0 (7 ∷ []) []
     ∷ row (Urlbar (Existing own) (plain 7)) true 1 (7 ∷ []) ((window, 1) ∷ [])
     ∷ row (Urlbar (Existing gone) (plain 7)) true 0 (7 ∷ []) ((window, 9) ∷ [])
     ∷ row (Reload own) true 1 (5 ∷ []) ((window, 1) ∷ [])
-    ∷ row (Reload another) true 1 (5 ∷ []) ((window, 2) ∷ [])
+    ∷ row (Reload another) true 5 (5 ∷ []) ((window, 5) ∷ [])
+    ∷ row (Reload (record { 0 = 3 })) true 1 (6 ∷ []) ((window, 3) ∷ [])
     ∷ row (Reload gone) true 0 [] ((window, 9) ∷ [])
     ∷ row (GoForward own) true 1 [] ((window, 1) ∷ [])
-    ∷ row (GoForward another) true 1 [] ((window, 2) ∷ [])
+    ∷ row (GoForward another) true 5 [] ((window, 5) ∷ [])
     ∷ row (GoForward gone) true 0 [] ((window, 9) ∷ [])
     ∷ row (GoBack own) true 1 [] ((window, 1) ∷ [])
-    ∷ row (GoBack another) true 1 [] ((window, 2) ∷ [])
+    ∷ row (GoBack another) true 5 [] ((window, 5) ∷ [])
     ∷ row (GoBack gone) true 0 [] ((window, 9) ∷ [])
     ∷ row CloseCorrupt false 0 [] []
     -- encrypted answers: to a window, to an XHR, to nothing that waits; each with a redirect

@@ -4,15 +4,13 @@ use mathlib.Core.List.{List, [], _∷_}
 use Prim.Native.Nat.{ℕ, zero, suc}
 use Prim.Native.String.{String}
 use lib.Dec.{eqb}
-use Rattle.types.specs.declared.refusals.Verdict.{Verdict}
-use Rattle.types.specs.declared.refusals.Verdict.the-variants.{Accepted, Refused}
 use Rattle.tables.specs.Tables.{windows, documents}
 use Rattle.csexp.specs.Text.{text}
 use Rattle.csexp.specs.Term.{Term, atom, list}
 use Rattle.csexp.specs.Read.{Got, no, got, read}
 use Rattle.shapes.specs.Texts.{itemIn}
 use Rattle.wim.specs.Navigable.{navigableMask, navigableSize}
-use Rattle.wim.specs.Step.{refusalNumber, Browser, emptyBrowser}
+use Rattle.wim.specs.Step.{verdictNumber, Browser, emptyBrowser}
 use Rattle.wim.specs.Wire.{rehearse}
 use Rattle.wim.specs.Run.{performed, after}
 use Rattle.wim.specs.Points.Compared.{Run, equal, prints}
@@ -44,14 +42,10 @@ isAtom no w = false
 isAtom (got (atom bs) rest) w = equal bs (text w) && equal rest []
 isAtom (got (list ts) rest) w = false
 
--- the number that a text gets from the empty open browser, 0 where it is accepted; `room` bytes are lent
-abbrev pub verdictNumber : Verdict → ℕ
-verdictNumber Accepted = 0
-verdictNumber (Refused r) = refusalNumber r
-
 abbrev pub zeros : ℕ → List ℕ
 zeros room = elim room as (λ _. List ℕ) [ zero ↦ [] | suc (n → more) ↦ 0 ∷ more ]
 
+-- the number that a text gets from the empty open browser, 0 where it is accepted; `room` bytes are lent
 abbrev pub refusalOf : String → ℕ → ℕ → ℕ
 refusalOf s room place = verdictNumber (rehearse (text s) emptyBrowser (zeros room) place .verdict)
 
