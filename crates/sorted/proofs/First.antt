@@ -1,7 +1,7 @@
 -- The loop that looks for the first row that passes a test.
 use mathlib.Core.Path.{_≡_, ap}
 use mathlib.Core.Bool.{Bool, true, false}
-use mathlib.Core.List.{List, [], _∷_}
+use mathlib.Core.List.{List, []}
 use mathlib.Core.Option.{none, some}
 use Prim.Native.Nat.{ℕ, zero-le, _+_, _≤_, _<_, min}
 use native.Mathlib.Omega.{arith}
