@@ -11,6 +11,7 @@ use lib.ListN.{length, getD, take, drop, drop-of-length-le, length-drop, length-
 use lib.Seq.{drop-cons}
 use lib.Dec.{ltb, leb, eqb}
 use borrow.Author.Tests.{leb-true, leb-false, le-leb, lt-leb}
+use Rattle.sorted.proofs.Never.{never}
 use Rattle.csexp.specs.Term.{digits, decimal}
 use Rattle.csexp.specs.Read.{Got, no, got, then, number, mark, bytes, string}
 use Rattle.csexp.specs.At.{At, fails, ends, place, markAt, numberAt, stringAt, seen}
@@ -181,10 +182,10 @@ module _ (lo hi : ℕ) (bs : List ℕ) {v p : ℕ} where
           let same-v : n ≡ v = cc in
           let same-p : p ≡ length bs - length r = cc in
           all n r (omega arith) same-v (leb-true n hi e)
-      by n r l false e q = let z : _≡_ {A = ℕ} 0 1 = cc in absurd (omega arith)
+      by n r l false e q = never (cc)
 
       go : (m : Got ℕ) → number bs ≡ m → ends v p ≡ decode (atMost hi) (place bs m) → and-then (all-read m) (between lo hi) ≡ some v
-      go no e q = let z : _≡_ {A = ℕ} 0 1 = cc in absurd (omega arith)
+      go no e q = never (cc)
       go (got n r) e q =
           by n r (let l = ap length (number-sound bs e) ∙ length-append (decimal n) r in let k = decimal-long n in omega arith) (leb n hi) refl q
 
@@ -203,7 +204,7 @@ module _ (lo hi : ℕ) (bs : List ℕ) {v p : ℕ} where
         where
           go₃ : (u : Bool) → cond u (ends v p) fails ≡ ends n (length bs - 0) → between lo hi n ≡ none
           go₃ true q = let same-v : v ≡ n = cc in let same-p : p ≡ length bs - 0 = cc in let less = few (same-p ∙ sub-zero (length bs)) in simp (lt-leb lo n (omega arith))
-          go₃ false q = let z : _≡_ {A = ℕ} 0 1 = cc in absurd (omega arith)
+          go₃ false q = never (cc)
 
       go : (m : Got ℕ) → seen bs v p ≡ decode (atMost hi) (place bs m) → and-then (all-read m) (between lo hi) ≡ none
       go no q = refl

@@ -3,9 +3,9 @@ use mathlib.Core.Path.{_≡_, refl}
 use mathlib.Core.Bool.{Bool, true, false, cond}
 use mathlib.Core.List.{List}
 use Prim.Native.Nat.{ℕ, _≤_}
-use native.Mathlib.Omega.{arith}
 use lib.Dec.{leb}
 use borrow.Author.Tests.{leb-true, le-leb}
+use Rattle.sorted.proofs.Never.{never}
 use Rattle.csexp.specs.Read.{Got, no, got, then, digit}
 
 pub cond-cong : {A : Type 0} (b : Bool) (x y z : A) → (b ≡ false → y ≡ z) → cond b x y ≡ cond b x z
@@ -13,10 +13,10 @@ cond-cong true x y z h = refl
 cond-cong false x y z h = h refl
 
 pub no-got : {A B : Type 0} {a : A} {r : List ℕ} → no ≡ got a r → B
-no-got e = let z : _≡_ {A = ℕ} 0 1 = cc in absurd (omega arith)
+no-got e = never (cc)
 
 pub false-true : {B : Type 0} → false ≡ true → B
-false-true e = let z : _≡_ {A = ℕ} 0 1 = cc in absurd (omega arith)
+false-true e = never (cc)
 
 -- Both steps of a reading that came to something came to something.
 pub then-inv : {A B : Type 0} (m : Got A) {k : A → List ℕ → Got B} {b : B} {r : List ℕ} → then m k ≡ got b r

@@ -14,6 +14,7 @@ use native.Mathlib.Omega.{arith}
 use lib.ListN.{length, drop, length-drop, length-append}
 use lib.Dec.{leb}
 use borrow.Author.Tests.{leb-true, le-leb}
+use Rattle.sorted.proofs.Never.{never}
 use Rattle.csexp.specs.Term.{Term, write, levels}
 use Rattle.csexp.specs.Read.{Got, no, got, read}
 use Rattle.csexp.specs.At.{At, fails, ends, place, termAt}
@@ -47,7 +48,7 @@ module _ {A : Type 0} (d : Decoder A) (s : List ℕ) (at : ℕ) (v : A) where
     where
       by : (t : Term) (r : List ℕ) (m : Option A) → d t ≡ m → read (drop at s) ≡ got t r → found m (length s - length r) ≡ ends v p
           → (t : Term) × (drop at s ≡ write t ++ drop p s) × (d t ≡ some v)
-      by t r none h q e = let z : _≡_ {A = ℕ} 0 1 = cc in absurd (omega arith)
+      by t r none h q e = never (cc)
       by t r (some a) h q e =
           let same-p : length s - length r ≡ p = cc in
           let same-v : a ≡ v = cc in
@@ -55,7 +56,7 @@ module _ {A : Type 0} (d : Decoder A) (s : List ℕ) (at : ℕ) (v : A) where
           (t, read-sound (drop at s) q ∙ ap (λ (l : List ℕ). write t ++ l) left, h ∙ ap some same-v)
 
       go : (m : Got Term) → read (drop at s) ≡ m → decode d (place s m) ≡ ends v p → (t : Term) × (drop at s ≡ write t ++ drop p s) × (d t ≡ some v)
-      go no q e = let z : _≡_ {A = ℕ} 0 1 = cc in absurd (omega arith)
+      go no q e = never (cc)
       go (got t r) q e = by t r (d t) refl q e
 
   pub written-is-found : (t : Term) (r : List ℕ) → drop at s ≡ write t ++ r → d t ≡ some v → decode d (termAt s at) ≡ ends v (length s - length r)
@@ -70,7 +71,7 @@ reads-agree {A} {d} {s} {at} {p} {q} {v} {w} m n h = go (leb q (length s)) (sym 
   where
     go : (c : Bool) → ends v p ≡ cond c (ends w q) fails → (v ≡ w) × (p ≡ q)
     go true e = let same-v : v ≡ w = cc in let same-p : p ≡ q = cc in (same-v, same-p)
-    go false e = let z : _≡_ {A = ℕ} 0 1 = cc in absurd (omega arith)
+    go false e = never (cc)
 
 shallow-of : (n : ℕ) (t : Term) → shallow n t ≡ some tt → levels t ≤ n
 unfolding shallow
@@ -78,7 +79,7 @@ shallow-of n t e = go (leb (levels t) n) refl e
   where
     go : (c : Bool) → leb (levels t) n ≡ c → cond c (some (tt {0})) none ≡ some tt → levels t ≤ n
     go true h e = leb-true (levels t) n h
-    go false h e = let z : _≡_ {A = ℕ} 0 1 = cc in absurd (omega arith)
+    go false h e = never (cc)
 
 of-shallow : (n : ℕ) (t : Term) → levels t ≤ n → shallow n t ≡ some tt
 unfolding shallow
@@ -115,11 +116,11 @@ module _ (bytes n : ℕ) where
           let w = found-is-written (shallow n) s at tt p (d ∙ ap (ends tt) same-p) in
           let fit : q - at ≤ bytes = leb-true (q - at) bytes h in
           (w .0, w .1, omega arith, shallow-of n (w .0) (w .2))
-      by x q false h d e = let z : _≡_ {A = ℕ} 0 1 = cc in absurd (omega arith)
+      by x q false h d e = never (cc)
 
       go : (m : At (Unit {0})) → decode (shallow n) (termAt s at) ≡ m → ending bytes at m ≡ Whole p
           → (t : Term) × (drop at s ≡ write t ++ drop p s) × (p - at ≤ bytes) × (levels t ≤ n)
-      go fails q e = let z : _≡_ {A = ℕ} 0 1 = cc in absurd (omega arith)
+      go fails q e = never (cc)
       go (ends x q) d e = by x q (leb (q - at) bytes) refl d e
 
   pub written-is-ending : (s : List ℕ) (at : ℕ) (t : Term) (r : List ℕ) → drop at s ≡ write t ++ r → length (write t) ≤ bytes → levels t ≤ n

@@ -8,6 +8,7 @@ use native.Mathlib.Omega.{arith}
 use lib.ListN.{length, drop, length-append, length-drop}
 use lib.Dec.{leb, leb·zero, leb·suc-zero, leb·suc-suc}
 use borrow.Author.Tests.{leb-true, leb-false, le-leb, lt-leb}
+use Rattle.sorted.proofs.Never.{never}
 use Rattle.csexp.specs.Term.{Term, atom, list, Terms, nil, cons, levels, levelsIn, write}
 use Rattle.csexp.specs.Read.{Got, no, got, number, mark, string, read}
 use Rattle.csexp.specs.At.{At, fails, ends, place, termAt, termsAt, stringAt, markAt}
@@ -46,7 +47,7 @@ module _ {s : List ℕ} {at p : ℕ} where
   no-atom f m h = record { misses = at-atom s at f ∙ ap (decode f) (go (mark 40 (drop at s)) refl (sym (m .exactly) ∙ seen-there s tt p h)) }
     where
       go : (x : Got (Unit {0})) → mark 40 (drop at s) ≡ x → place s x ≡ ends tt p → place s (string (drop at s)) ≡ fails
-      go no e q = let z : _≡_ {A = ℕ} 0 1 = cc in absurd (omega arith)
+      go no e q = never (cc)
       go (got y r) e q = ap (λ (l : List ℕ). place s (string l)) (mark-sound 40 (drop at s) e)
 
   no-list : {A : Type 0} (f : Fields A) → Marks 40 s at p → length s < p → Misses (inside f) s at
@@ -136,7 +137,7 @@ unfolding termAt
 term-forward {A} {s} {at} {p} {d} {v} m h = go (read (drop at s)) refl (sym (seen-there s v p h) ∙ m .exactly)
   where
     by : (t : Term) (r : List ℕ) (x : Option A) → read (drop at s) ≡ got t r → ends v p ≡ found x (length s - length r) → at < p
-    by t r none e q = let z : _≡_ {A = ℕ} 0 1 = cc in absurd (omega arith)
+    by t r none e q = never (cc)
     by t r (some a) e q =
         let same-p : p ≡ length s - length r = cc in
         let l = ap length (read-sound (drop at s) e) ∙ length-append (write t) r in
@@ -145,7 +146,7 @@ term-forward {A} {s} {at} {p} {d} {v} m h = go (read (drop at s)) refl (sym (see
         omega arith
 
     go : (x : Got Term) → read (drop at s) ≡ x → ends v p ≡ decode d (place s x) → at < p
-    go no e q = let z : _≡_ {A = ℕ} 0 1 = cc in absurd (omega arith)
+    go no e q = never (cc)
     go (got t r) e q = by t r (d t) e q
 
 pub mark-forward : {s : List ℕ} {b at p : ℕ} → Marks b s at p → p ≤ length s → at < p
@@ -153,7 +154,7 @@ unfolding markAt
 mark-forward {s} {b} {at} {p} m h = go (mark b (drop at s)) refl (sym (seen-there s tt p h) ∙ m .exactly)
   where
     go : (x : Got (Unit {0})) → mark b (drop at s) ≡ x → ends tt p ≡ place s x → at < p
-    go no e q = let z : _≡_ {A = ℕ} 0 1 = cc in absurd (omega arith)
+    go no e q = never (cc)
     go (got y r) e q =
         let same-p : p ≡ length s - length r = cc in
         let l = ap length (mark-sound b (drop at s) e) in

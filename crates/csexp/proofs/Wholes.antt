@@ -8,6 +8,7 @@ use native.Mathlib.Omega.{arith}
 use lib.ListN.{length, length-append}
 use lib.Dec.{leb, eqb}
 use borrow.Author.Tests.{leb-false, le-leb, lt-leb, eq-eqb, ne-eqb}
+use Rattle.sorted.proofs.Never.{never}
 use Rattle.csexp.specs.Term.{Term, levels, write}
 use Rattle.csexp.specs.Read.{Got, no, got, read}
 use Rattle.csexp.specs.At.{fails, ends, place, termAt, seen}
@@ -22,12 +23,12 @@ unfolding termAt shallow wholeOf
 whole-is bytes n s {p} m h = go (read s) refl (m .exactly) ∙ sym (ap (λ (c : Bool). cond c (allOf n (read s)) false) (le-leb (length s) bytes h))
   where
     past : (c : Bool) → leb p (length s) ≡ c → cond c (ends (tt {0}) p) fails ≡ fails → eqb p (length s) ≡ false
-    past true e q = let z : _≡_ {A = ℕ} 0 1 = cc in absurd (omega arith)
+    past true e q = never (cc)
     past false e q = let o = leb-false p (length s) e in ne-eqb p (length s) (λ x. omega arith)
 
     here : (q : ℕ) (c : Bool) → leb p (length s) ≡ c → cond c (ends (tt {0}) p) fails ≡ ends (tt {0}) q → p ≡ q
     here q true e f = cc
-    here q false e f = let z : _≡_ {A = ℕ} 0 1 = cc in absurd (omega arith)
+    here q false e f = never (cc)
 
     by : (t : Term) (r : List ℕ) (c : Bool) → leb (levels t) n ≡ c → read s ≡ got t r → seen s (tt {0}) p ≡ found (cond c (some (tt {0})) none) (length s - length r)
         → eqb p (length s) ≡ allOf n (got t r)

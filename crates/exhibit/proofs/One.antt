@@ -26,9 +26,6 @@ one-exhibit {m} {n} {w} {out} {place} {r} {s} {out₁} {out₂} e u v =
     let same : saying r out₁ ≡ saying s out₂ = u .tells ∙ ap (λ (x : Browser). exhibit x w out place) e ∙ sym (v .tells) in
     (ap (λ (x : Exhibit). x .verdict) same, ap (λ (x : Exhibit). x .count) same, ap (λ (x : Exhibit). x .buffer) same)
 
-other-verdict : {A : Type 0} {why : Refusal} → Accepted ≡ Refused why → A
-other-verdict e = never (cc)
-
 module _ (out : List ℕ) (place : ℕ) where
   idle : (x : Shown) (why : Refusal) → exhibited x out place .verdict ≡ Refused why → (exhibited x out place .count ≡ 0) × (exhibited x out place .buffer ≡ out)
   idle (hidden r) why e = (refl, refl)
@@ -38,7 +35,7 @@ module _ (out : List ℕ) (place : ℕ) where
       there = record { verdict = Accepted; count = length (write t); buffer = putInto out place (write t) }
 
       go : (c : Bool) → cond c there (withheld NoRoom out) .verdict ≡ Refused why → (cond c there (withheld NoRoom out) .count ≡ 0) × (cond c there (withheld NoRoom out) .buffer ≡ out)
-      go true e = other-verdict e
+      go true e = never (cc)
       go false e = (refl, refl)
 
   inside : (x : Shown) → exhibited x out place .count ≤ length (exhibited x out place .buffer)

@@ -1,1 +1,2 @@
+-- The first row of a navigable set.
 pub mod First

@@ -7,6 +7,7 @@ use Prim.Native.Nat.{ℕ, _-_}
 use native.Mathlib.Omega.{arith}
 use lib.ListN.{length}
 use lib.Dec.{leb}
+use Rattle.sorted.proofs.Never.{never}
 use Rattle.csexp.specs.Term.{Term}
 use Rattle.csexp.specs.Read.{Got, got, read}
 use Rattle.csexp.specs.At.{fails, ends, place, termAt, seen}
@@ -34,7 +35,7 @@ module _ {A : Type 0} {s : List ℕ} {v : A} {p : ℕ} (d : Decoder A) (t : Term
   decoded at-end = go (d t) (sym (seen-there s v p (omega arith)) ∙ term-there)
     where
       go : (x : Option A) → ends v p ≡ found x (length s - 0) → x ≡ some v
-      go none q = let z : _≡_ {A = ℕ} 0 1 = cc in absurd (omega arith)
+      go none q = never (cc)
       go (some a) q = cc
 
   -- it does not
@@ -44,7 +45,7 @@ module _ {A : Type 0} {s : List ℕ} {v : A} {p : ℕ} (d : Decoder A) (t : Term
       go : (x : Option A) (c : Bool) → cond c (ends v p) fails ≡ found x (length s - 0) → x ≡ none
       go none c q = refl
       go (some a) true q = let z : p ≡ length s - 0 = cc in absurd (elsewhere (omega arith))
-      go (some a) false q = let z : _≡_ {A = ℕ} 0 1 = cc in absurd (omega arith)
+      go (some a) false q = never (cc)
 
 module _ (s : List ℕ) where
   pub is-item : {v : Item} {p : ℕ} → wholeOf itemBytes itemLevels s ≡ true → Reads itemOf s 0 v p → p ≡ length s → itemIn s ≡ item v

@@ -6,6 +6,7 @@ use native.Mathlib.Omega.{arith}
 use native.Mathlib.Numerals.{add-one}
 use lib.ListN.{length, take, set}
 use lib.Seq.{length-take-le}
+use Rattle.sorted.proofs.Never.{never}
 use Rattle.sorted.specs.Table.{fill}
 use Rattle.shapes.specs.Nouns.{Cookie, SetCookies}
 use Rattle.shapes.specs.Items.{cookieOf, blankCookie, setCookies}
@@ -14,8 +15,8 @@ use Rattle.csexp.proofs.Filling.{Filling}
 module _ {A : Type 0} (b : A) where
   pub set-fill : (n : ℕ) (l : List A) (c : ℕ) (v : A) → c < n → fill b n (take c l) ≡ l → fill b n (take (suc c) (set l c v)) ≡ set l c v
   set-fill zero l c v h e = absurd (omega arith)
-  set-fill (suc n) [] zero v h e = let z : _≡_ {A = ℕ} 0 1 = cc in absurd (omega arith)
-  set-fill (suc n) [] (suc c) v h e = let z : _≡_ {A = ℕ} 0 1 = cc in absurd (omega arith)
+  set-fill (suc n) [] zero v h e = never (cc)
+  set-fill (suc n) [] (suc c) v h e = never (cc)
   set-fill (suc n) (x ∷ l) zero v h e = let t : fill b n [] ≡ l = cc in ap (λ (r : List A). v ∷ r) t
   set-fill (suc n) (x ∷ l) (suc c) v h e = let t : fill b n (take c l) ≡ l = cc in ap (λ (r : List A). x ∷ r) (set-fill n l c v (omega arith) t)
 

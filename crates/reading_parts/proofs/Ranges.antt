@@ -8,6 +8,7 @@ use native.Mathlib.Omega.{arith}
 use lib.ListN.{length}
 use lib.Dec.{leb}
 use borrow.Author.Tests.{leb-true, leb-false, le-leb, lt-leb}
+use Rattle.sorted.proofs.Never.{never}
 use Rattle.csexp.specs.Term.{Term, atom, list}
 use Rattle.csexp.specs.Read.{number}
 use Rattle.csexp.specs.At.{At, fails, ends, termAt, seen}
@@ -23,16 +24,16 @@ module _ (lo hi : ℕ) where
     where
       by : (n q : ℕ) (a b : Bool) → leb lo n ≡ a → leb n hi ≡ b → ends v p ≡ found (cond a (cond b (some n) none) none) q → (lo ≤ v) × (v ≤ hi)
       by n q true true x y e = let z : v ≡ n = cc in let l = leb-true lo n x in let u = leb-true n hi y in (omega arith, omega arith)
-      by n q true false x y e = let z : _≡_ {A = ℕ} 0 1 = cc in absurd (omega arith)
-      by n q false b x y e = let z : _≡_ {A = ℕ} 0 1 = cc in absurd (omega arith)
+      by n q true false x y e = never (cc)
+      by n q false b x y e = never (cc)
 
       read : (x : Option ℕ) (q : ℕ) → ends v p ≡ found (and-then x (between lo hi)) q → (lo ≤ v) × (v ≤ hi)
-      read none q e = let z : _≡_ {A = ℕ} 0 1 = cc in absurd (omega arith)
+      read none q e = never (cc)
       read (some n) q e = by n q (leb lo n) (leb n hi) refl refl e
 
       go : (x : At Term) → ends v p ≡ decode (numeral lo hi) x → (lo ≤ v) × (v ≤ hi)
-      go fails e = let z : _≡_ {A = ℕ} 0 1 = cc in absurd (omega arith)
-      go (ends (list ts) q) e = let z : _≡_ {A = ℕ} 0 1 = cc in absurd (omega arith)
+      go fails e = never (cc)
+      go (ends (list ts) q) e = never (cc)
       go (ends (atom bs) q) e = read (all-read (number bs)) q e
 
 -- where nothing was found, any value will do

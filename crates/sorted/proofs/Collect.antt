@@ -25,13 +25,10 @@ module _ {A B : Type 0} {p : A → Bool} {f : A → B} {count capacity n : ℕ} 
   collect-start l r e = record { len = l; room = r; counts = e; within = zero-le; behind = zero-le; all = ap (λ (t : List A). map f (keep p t)) (all-rows count capacity n rows l e) }
 
   module _ {out : List B} {i j : ℕ} (s : Collecting p f count capacity n rows out i j) where
-    next : (d : A) → i < n → drop i (take n rows) ≡ getD rows i d ∷ drop (i + 1) (take n rows)
-    next d h = next-row count capacity n rows (s .len) (s .counts) i d h
-
     pub collect-skips : (d : A) → i < n → p (getD rows i d) ≡ false → Collecting p f count capacity n rows out (i + 1) j
     unfolding keep
     collect-skips d h e =
-        record { len = s .len; room = s .room; counts = s .counts; within = omega arith; behind = omega arith; all = rw (next d h, e) at (s .all) }
+        record { len = s .len; room = s .room; counts = s .counts; within = omega arith; behind = omega arith; all = rw (next-row count capacity n rows (s .len) (s .counts) i d h, e) at (s .all) }
 
     pub collect-takes : (d : A) → i < n → p (getD rows i d) ≡ true → Collecting p f count capacity n rows (set out j (f (getD rows i d))) (i + 1) (j + 1)
     unfolding keep
@@ -45,7 +42,7 @@ module _ {A B : Type 0} {p : A → Bool} {f : A → B} {count capacity n : ℕ} 
           all =
               let w : B = f (getD rows i d) in
               let t : take (j + 1) (set out j w) ≡ take j out ++ (w ∷ []) = rw add-one (take-suc-set out j w (omega (arith, s .room))) in
-              rw (t, append-snoc) (rw (next d h, e) at (s .all));
+              rw (t, append-snoc) (rw (next-row count capacity n rows (s .len) (s .counts) i d h, e) at (s .all));
         }
 
     pub collect-end : n ≤ i → take j out ≡ map f (keep p (take count rows))

@@ -1,7 +1,7 @@
 -- The loop that looks for the first row that passes a test.
 use mathlib.Core.Path.{_≡_, ap}
 use mathlib.Core.Bool.{Bool, true, false}
-use mathlib.Core.List.{List, [], _∷_}
+use mathlib.Core.List.{List, []}
 use mathlib.Core.Option.{none, some}
 use Prim.Native.Nat.{ℕ, zero-le, _+_, _≤_, _<_, min}
 use native.Mathlib.Omega.{arith}
@@ -20,16 +20,13 @@ module _ {A : Type 0} {p : A → Bool} {count capacity n : ℕ} {rows : List A} 
   find-start l e = record { len = l; counts = e; within = zero-le; all = ap (find p) (all-rows count capacity n rows l e) }
 
   module _ {i : ℕ} (s : Finding p count capacity n rows i) where
-    next : (d : A) → i < n → drop i (take n rows) ≡ getD rows i d ∷ drop (i + 1) (take n rows)
-    next d h = next-row count capacity n rows (s .len) (s .counts) i d h
-
     pub find-next : (d : A) → i < n → p (getD rows i d) ≡ false → Finding p count capacity n rows (i + 1)
     unfolding find
-    find-next d h e = record { len = s .len; counts = s .counts; within = omega arith; all = rw (next d h, e) at (s .all) }
+    find-next d h e = record { len = s .len; counts = s .counts; within = omega arith; all = rw (next-row count capacity n rows (s .len) (s .counts) i d h, e) at (s .all) }
 
     pub find-hit : (d : A) → i < n → p (getD rows i d) ≡ true → some (getD rows i d) ≡ find p (take count rows)
     unfolding find
-    find-hit d h e = rw (next d h, e) at (s .all)
+    find-hit d h e = rw (next-row count capacity n rows (s .len) (s .counts) i d h, e) at (s .all)
 
     pub find-end : n ≤ i → none ≡ find p (take count rows)
     unfolding find

@@ -22,13 +22,10 @@ module _ {A : Type 0} {p : A → Bool} {count capacity n : ℕ} {rows₀ : List 
   keep-start l e = record { len = l; counts = e; within = zero-le; behind = zero-le; all = ap (keep p) (all-rows count capacity n rows₀ l e) }
 
   module _ {rows : List A} {i j : ℕ} (s : Keeping p count capacity n rows₀ rows i j) where
-    next : (d : A) → i < n → drop i (take n rows) ≡ getD rows i d ∷ drop (i + 1) (take n rows)
-    next d h = next-row count capacity n rows (s .len) (s .counts) i d h
-
     pub keep-drops : (d : A) → i < n → p (getD rows i d) ≡ false → Keeping p count capacity n rows₀ rows (i + 1) j
     unfolding keep
     keep-drops d h e =
-        record { len = s .len; counts = s .counts; within = omega arith; behind = omega arith; all = rw (next d h, e) at (s .all) }
+        record { len = s .len; counts = s .counts; within = omega arith; behind = omega arith; all = rw (next-row count capacity n rows (s .len) (s .counts) i d h, e) at (s .all) }
 
     pub keep-keeps : (d : A) → i < n → p (getD rows i d) ≡ true → Keeping p count capacity n rows₀ (set rows j (getD rows i d)) (i + 1) (j + 1)
     unfolding keep
@@ -45,7 +42,7 @@ module _ {A : Type 0} {p : A → Bool} {count capacity n : ℕ} {rows₀ : List 
               let u : drop (i + 1) (take n (set rows j w)) ≡ drop (i + 1) (take n rows) =
               rw (take-set-lt n rows j w (omega arith)) (drop-set-lt (i + 1) (take n rows) j w (omega arith))
               in
-              rw (t, u, append-snoc) (rw (next d h, e) at (s .all));
+              rw (t, u, append-snoc) (rw (next-row count capacity n rows (s .len) (s .counts) i d h, e) at (s .all));
         }
 
     pub keep-end : n ≤ i → take j rows ≡ keep p (take count rows₀)

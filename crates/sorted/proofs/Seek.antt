@@ -26,20 +26,17 @@ module _ {A : Type 0} {c : A → Order} {count capacity n : ℕ} {rows : List A}
     all : take n rows ≡ take count rows
     all = all-rows count capacity n rows (s .len) (s .counts)
 
-    next : (d : A) → i < n → drop i (take n rows) ≡ getD rows i d ∷ drop (i + 1) (take n rows)
-    next d h = next-row count capacity n rows (s .len) (s .counts) i d h
-
     pub seek-next : (d : A) → i < n → after (c (getD rows i d)) ≡ true → Seeking c count capacity n rows (i + 1)
     unfolding lower has
     seek-next d h e =
-        let p : i + suc (lower c (drop (i + 1) (take n rows))) ≡ lower c (take n rows) = rw (next d h, e) at (s .passed) in
-        record { len = s .len; counts = s .counts; within = omega arith; passed = omega (arith, p); missed = rw (next d h, e) at (s .missed) }
+        let p : i + suc (lower c (drop (i + 1) (take n rows))) ≡ lower c (take n rows) = rw (next-row count capacity n rows (s .len) (s .counts) i d h, e) at (s .passed) in
+        record { len = s .len; counts = s .counts; within = omega arith; passed = omega (arith, p); missed = rw (next-row count capacity n rows (s .len) (s .counts) i d h, e) at (s .missed) }
 
     pub seek-hit : (d : A) → i < n → after (c (getD rows i d)) ≡ false → Sought c count capacity rows i (same (c (getD rows i d))) n
     unfolding lower has
     seek-hit d h e =
-        let p : i + 0 ≡ lower c (take n rows) = rw (next d h, e) at (s .passed) in
-        let r : same (c (getD rows i d)) ≡ has c (take n rows) = rw (next d h, e) at (s .missed) in
+        let p : i + 0 ≡ lower c (take n rows) = rw (next-row count capacity n rows (s .len) (s .counts) i d h, e) at (s .passed) in
+        let r : same (c (getD rows i d)) ≡ has c (take n rows) = rw (next-row count capacity n rows (s .len) (s .counts) i d h, e) at (s .missed) in
         record { len = s .len; place = sym (add-zero i) ∙ p ∙ ap (lower c) all; there = r ∙ ap (has c) all; size = row-count count capacity n rows (s .len) (s .counts) }
 
     pub seek-end : n ≤ i → Sought c count capacity rows i false n

@@ -14,7 +14,7 @@ use Rattle.wim.specs.Program.{Outcome, refused, made}
 use Rattle.browser.specs.View.{view}
 use Rattle.stepping.specs.declared.Performed.{Performed}
 
--- of 6 nothing is said: the memory is then a copy that is thrown away
+-- of 6 nothing is said: rehearsal::step takes such a step on a copy, which it throws away
 abbrev pub keeps : Refusal → Bool
 keeps BadText = true
 keeps BadShape = true

@@ -24,15 +24,12 @@ module _ {count capacity n : ℕ} {rows₀ : List Cookie} where
   last-start l e = record { still = refl; len = l; counts = e; within = zero-le; behind = zero-le; all = ap latest (all-rows count capacity n rows₀ l e) }
 
   module _ {now : ℕ} {rows : List Cookie} {i j : ℕ} (s : Lasting count capacity n rows₀ now rows i j) where
-    next : (d : Cookie) → i < n → drop i (take n rows) ≡ getD rows i d ∷ drop (i + 1) (take n rows)
-    next d h = next-row count capacity n rows (s .len) (s .counts) i d h
-
     later : (d : Cookie) (b : Bool) → named (getD rows i d .name) (drop (i + 1) (take now rows)) ≡ b → named (getD rows i d .name) (drop (i + 1) (take n rows)) ≡ b
     later d b e = ap (λ (l : List Cookie). named (getD rows i d .name) (drop (i + 1) l)) (all-rows count capacity n rows (s .len) (s .counts) ∙ ap (λ (m : ℕ). take m rows) (sym (s .still))) ∙ e
 
     pub last-drops : (d : Cookie) → i < n → named (getD rows i d .name) (drop (i + 1) (take now rows)) ≡ true → Lasting count capacity n rows₀ now rows (i + 1) j
     last-drops d h e =
-        record { still = s .still; len = s .len; counts = s .counts; within = omega arith; behind = omega arith; all = rw (next d h, later d true e) at (s .all) }
+        record { still = s .still; len = s .len; counts = s .counts; within = omega arith; behind = omega arith; all = rw (next-row count capacity n rows (s .len) (s .counts) i d h, later d true e) at (s .all) }
 
     pub last-keeps : (d : Cookie) → i < n → named (getD rows i d .name) (drop (i + 1) (take now rows)) ≡ false → Lasting count capacity n rows₀ now (set rows j (getD rows i d)) (i + 1) (j + 1)
     last-keeps d h e =
@@ -49,7 +46,7 @@ module _ {count capacity n : ℕ} {rows₀ : List Cookie} where
               let u : drop (i + 1) (take n (set rows j w)) ≡ drop (i + 1) (take n rows) =
               rw (take-set-lt n rows j w (omega arith)) (drop-set-lt (i + 1) (take n rows) j w (omega arith))
               in
-              rw (t, u, append-snoc) (rw (next d h, later d false e) at (s .all));
+              rw (t, u, append-snoc) (rw (next-row count capacity n rows (s .len) (s .counts) i d h, later d false e) at (s .all));
         }
 
     pub last-end : n ≤ i → take j rows ≡ latest (take count rows₀)

@@ -1,17 +1,16 @@
 -- What goes out is read back, message by message: a law for each part.
 use mathlib.Core.Path.{_≡_, refl, sym, ap, subst, _∙_}
 use mathlib.Core.Bool.{Bool, true, false, cond}
-use mathlib.Core.List.{List, [], _∷_}
+use mathlib.Core.List.{List}
 use mathlib.Core.Option.{some}
 use Prim.Native.Nat.{ℕ}
 use native.Mathlib.Omega.{arith}
-use Rattle.sorted.specs.Table.{All}
 use Rattle.csexp.specs.Text.{text}
 use Rattle.csexp.specs.Term.{Terms, nil, cons, atom, list, write}
 use Rattle.csexp.specs.Decode.{same, means, maps, word, atomOf}
 use Rattle.csexp.proofs.Meaning.{read-written}
 use Rattle.csexp.specs.Encode.{numberTerm, labelled, joins}
-use Rattle.csexp.proofs.write.Backs.{Each, each-none, each-more, Gives, Holds, Denies, in-list, then-one, at-end, first-of, second-of, by-maps, no-maps, no-list, is-vacant, is-filled, is-there, is-other, is-last, is-word, is-means, no-means, no-begin, is-number, no-number, is-labelled, is-optional, all-back}
+use Rattle.csexp.proofs.write.Backs.{Gives, Holds, Denies, in-list, then-one, at-end, first-of, second-of, by-maps, no-maps, no-list, is-vacant, is-filled, is-there, is-other, is-last, is-word, is-means, no-means, no-begin, is-number, no-number, is-labelled, is-optional, all-back}
 use Rattle.shapes.specs.Nouns.{Protocol, Plain, Secure, Fragment, Absent, Named, Url, Origin, CookieName, Pair, Jar, Method, Get, Head, Post, Put, Delete, Connect, Options, Trace, OriginHeader, Unsent, Null, From, Referrer, Unknown, Known, Request}
 use Rattle.shapes.specs.Items.{protocolOf, fragmentOf, urlOf, originOf, nameOf, methodOf, headerOf}
 use Rattle.tables.specs.Rows.{jar}
@@ -115,14 +114,10 @@ behind-back j Null (Known u) i k = is-there _ _ _ null-back (is-there _ _ _ (ref
 behind-back j (From o) Unknown i k = is-there _ _ _ (from-back o i) (is-last _ _ _ _ at-end)
 behind-back j (From o) (Known u) i k = is-there _ _ _ (from-back o i) (is-there _ _ _ (referer-back u k) at-end)
 
-each-all : {A : Type 0} (P : A → Type 0) (l : List A) → All P l → Each P l
-each-all P [] h = each-none
-each-all P (x ∷ l) h = each-more (h .0) (each-all P l (h .1))
-
 headers-back : (q : Request) → RequestIn q → Gives headersOf (headersTerm q) (record { cookies = jar (pairs q); origin = q .origin; referrer = q .referrer })
 headers-back q i =
     in-list
-    (then-one _ (in-list (then-one _ (is-word _) (then-one _ (in-list (all-back pairOf pairTerm pair-back 64 (i .few) (each-all PairIn (pairs q) (i .each)))) at-end)))
+    (then-one _ (in-list (then-one _ (is-word _) (then-one _ (in-list (all-back pairOf pairTerm pair-back 64 (pairs q) (i .few) (i .each))) at-end)))
     (behind-back (jar (pairs q)) (q .origin) (q .referrer) (i .origin) (i .referrer)))
 
 request-back : (q : Request) → RequestIn q → Gives requestOf (requestTerm q) q

@@ -63,7 +63,7 @@ unfolding write decimal digits
 short-cookies q i =
     let few = i .few in
     let most : length (headerPairs (q .cookies)) * 38 ≤ 2432 = omega arith in
-    short-list (short-cons (short-word _) (short-cons (short-list (shorts-less 2432 (short-each pairTerm 38 short-pair (i .pairs)) most)) short-nil))
+    short-list (short-cons (short-word _) (short-cons (short-list (shorts-less 2432 (short-each pairTerm 38 short-pair _ (i .pairs)) most)) short-nil))
 
 short-origin : (o : OriginHeader) → OriginSmall o → Shorts (originHeader o) 28
 unfolding write decimal digits

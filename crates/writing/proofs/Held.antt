@@ -9,7 +9,7 @@ use denote.Laws.{Is}
 use denote.Shadow.{shadow}
 use denote.Struct.Field.{Field}
 use Rattle.writing.proofs.CookieRows.{sixty-four}
-use Rattle.csexp.proofs.write.Backs.{Each, each-none, each-more}
+use Rattle.sorted.specs.Table.{All}
 use Rattle.types.proofs.Fragment as a-fragment
 use Rattle.types.proofs.Url as a-url
 use Rattle.types.proofs.cookies.Pair as a-pair
@@ -48,11 +48,11 @@ referrer-small (Known u) vs i = url-small u _ (i .1 .1 .1 .1 .0)
 
 -- each row of an array
 all-held : (F : Field) (P : F .Value → Type 0) → ((x : F .Value) (vs : List Val) → Is (F .row) (F .into x) vs → P x)
-    → (n : ℕ) (xs : List (F .Value)) (us : List Val) → shadow (each (F .row .Denot) (F .row .own) (map (F .into) xs) us) → Each P (take n xs)
-all-held F P f zero xs us i = each-none
-all-held F P f (suc n) [] us i = each-none
+    → (n : ℕ) (xs : List (F .Value)) (us : List Val) → shadow (each (F .row .Denot) (F .row .own) (map (F .into) xs) us) → All P (take n xs)
+all-held F P f zero xs us i = tt
+all-held F P f (suc n) [] us i = tt
 all-held F P f (suc n) (x ∷ xs) [] i = absurd i
-all-held F P f (suc n) (x ∷ xs) (u ∷ us) i = each-more (f x (u ∷ []) (i .0)) (all-held F P f n xs us (i .1))
+all-held F P f (suc n) (x ∷ xs) (u ∷ us) i = (f x (u ∷ []) (i .0), all-held F P f n xs us (i .1))
 
 request-small : (q : Request) (vs : List Val) → Is a-request.the-row q vs → RequestSmall q
 request-small q vs i =

@@ -2,7 +2,7 @@
 use mathlib.Core.Option.{Option, none, some}
 use Prim.Native.Nat.{ℕ, _≤_}
 use lib.ListN.{length}
-use Rattle.csexp.proofs.write.Backs.{Each}
+use Rattle.sorted.specs.Table.{All}
 use Rattle.types.specs.Lists.{headerPairs}
 use Rattle.shapes.specs.Nouns.{Fragment, Absent, Named, Url, Pair, OriginHeader, Unsent, Null, From, Referrer, Unknown, Known, Request}
 use Rattle.shapes.specs.Words.{most32}
@@ -40,7 +40,7 @@ pub record RequestSmall (q : Request) : Type 0 where
   pub path : Small (q .path .0)
   pub parameters : Small (q .parameters .0)
   pub few : length (headerPairs (q .cookies)) ≤ 64
-  pub pairs : Each PairSmall (headerPairs (q .cookies))
+  pub pairs : All PairSmall (headerPairs (q .cookies))
   pub origin : OriginSmall (q .origin)
   pub referrer : ReferrerSmall (q .referrer)
   pub body : Small (q .body .0)

@@ -14,6 +14,7 @@ use native.Mathlib.Omega.{arith}
 use lib.ListN.{length}
 use lib.Dec.{eqb}
 use borrow.Author.Tests.{le-leb, eq-eqb, eqb-true, eqb-false}
+use Rattle.sorted.specs.Table.{All}
 use Rattle.csexp.specs.Term.{Term, atom, list, Terms, nil, cons, decimal}
 use Rattle.csexp.specs.Read.{Got, got, number, run}
 use Rattle.csexp.specs.Decode.{Decoder, Fields, and-then, inside, one, end, upTo, atomOf, either, first, maps, same, word, means, perhaps, emptyList, optionally, optionalOf, labelledOf, all-read, between, numeral}
@@ -142,15 +143,10 @@ is-optional hi n h = go (eqb n 0) refl
     go false e = let ne : n ≡ 0 → ⊥ = eqb-false n 0 e in is-filled _ _ (no-list _ _) (is-number 1 hi n (omega arith) h)
 
 -- each of the values is read back
-pub data Each {A : Type 0} (P : A → Type 0) : List A → Type 0 where
-  each-none : Each P []
-  each-more : {a : A} {xs : List A} → P a → Each P xs → Each P (a ∷ xs)
-
 pub all-back : {A : Type 0} {P : A → Type 0} (d : Decoder A) (f : A → Term) → ((a : A) → P a → Gives d (f a) a)
-    → (n : ℕ) {xs : List A} → length xs ≤ n → Each P xs → Holds (upTo n d) (each f xs) xs
+    → (n : ℕ) (xs : List A) → length xs ≤ n → All P xs → Holds (upTo n d) (each f xs) xs
 unfolding upTo each
-all-back d f g zero h each-none = record { is = refl }
-all-back d f g (suc n) h each-none = record { is = refl }
-all-back d f g zero h (each-more p ps) = absurd (omega arith)
-all-back {A} {P} d f g (suc n) h (each-more {a} {xs} p ps) =
-    record { is = rw (g a p .is, all-back d f g n {xs = xs} (omega arith) ps .is) }
+all-back d f g zero [] h ps = record { is = refl }
+all-back d f g (suc n) [] h ps = record { is = refl }
+all-back d f g zero (a ∷ xs) h ps = absurd (omega arith)
+all-back d f g (suc n) (a ∷ xs) h ps = record { is = rw (g a (ps .0) .is, all-back d f g n xs (omega arith) (ps .1) .is) }

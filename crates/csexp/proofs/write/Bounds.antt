@@ -10,11 +10,11 @@ use native.Mathlib.Omega.{arith}
 use lib.ListN.{length, length-append}
 use lib.Dec.{T, leb, ltb, eqb, lit≤}
 use borrow.Author.Tests.{ltb-true, ltb-false}
+use Rattle.sorted.specs.Table.{All}
 use Rattle.csexp.specs.Term.{Term, atom, list, Terms, nil, cons, decimal, write, writes}
 use Rattle.csexp.proofs.Numbers.{decimal-small}
 use Rattle.csexp.specs.Encode.{numberTerm, optionalTerm, each, labelled, joins}
 use Rattle.csexp.proofs.write.Leaves.{decimal-split}
-use Rattle.csexp.proofs.write.Backs.{Each, each-none, each-more}
 
 -- the text of t, and that of the terms ts, has at most k bytes
 pub record Short (t : Term) (k : ℕ) : Type 0 where
@@ -98,11 +98,11 @@ unfolding labelled
 short-labelled {j} h l = record { is = let a = (short-list (short-cons h (short-cons (short-number l) short-nil))) .is in omega arith }
 
 pub short-each : {A : Type 0} {P : A → Type 0} (f : A → Term) (k : ℕ) → ((a : A) → P a → Short (f a) k)
-    → {xs : List A} → Each P xs → Shorts (each f xs) (length xs * k)
+    → (xs : List A) → All P xs → Shorts (each f xs) (length xs * k)
 unfolding each
-short-each f k g each-none = record { is = let a = short-nil .is in omega arith }
-short-each {A} {P} f k g (each-more {a} {xs} p ps) =
-    shorts-less (suc (length xs) * k) (short-cons (g a p) (short-each f k g ps)) (step (length xs) k)
+short-each f k g [] ps = record { is = let a = short-nil .is in omega arith }
+short-each f k g (a ∷ xs) ps =
+    shorts-less (suc (length xs) * k) (short-cons (g a (ps .0)) (short-each f k g xs (ps .1))) (step (length xs) k)
   where
     step : (n k : ℕ) → k + n * k ≤ suc n * k
     step n k = omega (arith, suc-mul n k)

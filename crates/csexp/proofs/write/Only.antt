@@ -13,6 +13,7 @@ use Prim.Native.Nat.{ℕ, zero, suc, _≤_}
 use native.Mathlib.Omega.{arith}
 use lib.Dec.{eqb, leb}
 use borrow.Author.Tests.{leb-true, eqb-true, ne-eqb}
+use Rattle.sorted.proofs.Never.{never}
 use Rattle.csexp.specs.Term.{Term, atom, list, Terms, nil, cons, decimal}
 use Rattle.csexp.specs.Read.{Got, no, got, number}
 use Rattle.csexp.specs.Decode.{Decoder, Fields, and-then, or-else, inside, one, end, upTo, atomOf, either, first, maps, same, word, means, perhaps, optionally, optionalOf, labelledOf, all-read, between, numeral}
@@ -28,7 +29,7 @@ pub record HoldsOnly {A : Type 0} (f : Fields A) (P : Terms → A → Type 0) : 
   pub is : (ts : Terms) (v : A) → f ts ≡ some v → P ts v
 
 none-some : {A B : Type 0} {a : A} → none ≡ some a → B
-none-some e = let z : _≡_ {A = ℕ} 0 1 = cc in absurd (omega arith)
+none-some e = never (cc)
 
 module _ {A : Type 0} where
   pub gives-so : {d : Decoder A} {P Q : Term → A → Type 0} → GivesOnly d Q → ((t : Term) (v : A) → Q t v → P t v) → GivesOnly d P

@@ -1,8 +1,8 @@
 -- `reading_answers::bodies::read_status` meets its contract: what is a status lies from 100 to 505, and what is none does not.
-use mathlib.Core.Path.{_≡_, sym, _∙_}
-use Prim.Native.Nat.{ℕ}
+use mathlib.Core.Path.{sym, _∙_}
 use native.Mathlib.Omega.{arith}
 use borrow.Author.Needs.{needs}
+use Rattle.sorted.proofs.Never.{never}
 use Rattle.words.specs.declared.statuses.StatusKind.the-variants.{Redirects, Other}
 use Rattle.words.proofs.statuses.Statuses.{status-in, status-out}
 use Rattle.reading_parts.proofs.Ranges.{narrowed, outside}
@@ -11,12 +11,12 @@ use Rattle.reading_answers.proofs.bodies.read_status.Tie as tie
 
 returns : tie.Need-returns
 returns c =
-    let k = status-in _ Redirects (sym (c .before .before .status-kind .ensures) ∙ c .enum-told .given .1) (λ e. let z : _≡_ {A = ℕ} 0 1 = cc in omega arith) in
+    let k = status-in _ Redirects (sym (c .before .before .status-kind .ensures) ∙ c .enum-told .given .1) (λ e. never (cc)) in
     narrowed 0 65535 100 505 (omega arith) (omega arith) (c .before .before .before .short-number .ensures) (k .0) (k .1)
 
 returns-2 : tie.Need-returns-2
 returns-2 c =
-    let k = status-in _ Other (sym (c .before .before .status-kind .ensures) ∙ c .enum-told2 .given .1) (λ e. let z : _≡_ {A = ℕ} 0 1 = cc in omega arith) in
+    let k = status-in _ Other (sym (c .before .before .status-kind .ensures) ∙ c .enum-told2 .given .1) (λ e. never (cc)) in
     narrowed 0 65535 100 505 (omega arith) (omega arith) (c .before .before .before .short-number .ensures) (k .0) (k .1)
 
 returns-3 : tie.Need-returns-3
