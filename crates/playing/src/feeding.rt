@@ -1,9 +1,9 @@
 // A run from an input that is open for reading. The input goes through a window of fixed size, so it may be of any length; an item is played as soon as it is
 // whole.
-ghost use mathlib.Core.Path.{_≡_};
 ghost use Rattle.wim.specs.Step.{emptyBrowser};
 ghost use Rattle.wim.specs.Made.{RunsTo};
 ghost use Rattle.browser.specs.View.{browser};
+ghost use Rattle.playing.specs.Feeds.{Begins};
 use crate::window::Run;
 use crate::window::turn;
 use memory::Memory;
@@ -16,7 +16,7 @@ const TURNS: u64 = 18446744073709551615;
 
 // The memory made empty, and nothing held.
 fn begin(m: &mut Memory) -> Run
-    ensures { λ r. ⌜ (browser (now (m .exit)) ≡ emptyBrowser) × (r .held ≡ 0) ⌝ }
+    ensures { λ r. ⌜ Begins (now (m .exit)) (r .held) ⌝ }
 {
     rehearsal::make_empty(m);
     Run {

@@ -18,7 +18,7 @@ abbrev μ-loop : tie.MeasureT-loop
 μ-loop input m₀ loud run₀ window₀ lines₀ turns₀ m run window lines turns = turns
 
 loop-holds : tie.Need-loop-holds Inv-loop μ-loop
-loop-holds c = let held = c .begin .ensures .1 in (search needs, search needs, omega arith, subst (RunsTo emptyBrowser) (sym (c .begin .ensures .0)) begun)
+loop-holds c = let held = c .begin .ensures .nothing in (search needs, search needs, omega arith, subst (RunsTo emptyBrowser) (sym (c .begin .ensures .empty)) begun)
 
 slice-aggregate-turn : tie.Need-slice-aggregate-turn Inv-loop μ-loop
 slice-aggregate-turn c = c .before .before .before .loop .inv .0
