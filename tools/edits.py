@@ -12,7 +12,8 @@ an edit is refused only where a fact fails. It is worthless where
 Edits of different functions are tried together: a function is proved by itself, so an edit in one body has no part in what is said of another. An edit is refused where its own
 function is. Edits of anything but one function's body are tried alone.
 
-`rt check` must have proved the crates before. JOBS (default 2) checks go at once. The last line is 'N refused, M not refused, K worthless'; --log writes all lines to a file, with the commit.
+`rt check` must have proved the crates before. JOBS (default 2) checks go at once. The last line is 'N refused, M not refused, K worthless'; --log writes all lines to a file, with the commit; crates that were
+not tried keep their lines there, which hold as long as their text is the same.
 """
 import functools
 import glob
@@ -54,11 +55,15 @@ def below(crate):
     return words + ["-L", f"dependency={TOP}/target/rlib", "-L", f"dependency={OWN}/rlib"]
 
 
+def command(verb, crate, folder):
+    """The words by which the prover is asked of a crate's text in `folder`."""
+    logic = ["--antt-project", f"{KIT}/logic/antt-project.json", "--logic-built", f"{OWN}/logic-built"]
+    return [f"{OWN}/bin/rattle", verb, "--crate-name", crate, root_of(folder), *below(crate), *logic]
+
+
 def check(crate, folder, *more):
     """What the prover says of a crate's text in `folder`: its exit status and its words."""
-    logic = ["--antt-project", f"{KIT}/logic/antt-project.json", "--logic-built", f"{OWN}/logic-built"]
-    words = [f"{OWN}/bin/rattle", "check", "--crate-name", crate, root_of(folder), *below(crate), *logic, *more]
-    done = subprocess.run(words, stdout=subprocess.PIPE, stderr=subprocess.STDOUT, text=True)
+    done = subprocess.run(command("check", crate, folder) + list(more), stdout=subprocess.PIPE, stderr=subprocess.STDOUT, text=True)
     return done.returncode, done.stdout
 
 
@@ -311,11 +316,29 @@ def rows(edits):
     return bool(lines)
 
 
-def heading(tally):
-    """The first lines of the log."""
+def lines_of(log):
+    """The line of each edit in the log as it stands."""
+    text = open(log).read() if os.path.exists(log) else ""
+    return {f"{part[0]}/{line[2:].split(':')[0]}": line for part in (part.split("\n") for part in text.strip().split("\n\n")[1:]) for line in part[1:]}
+
+
+def write_log(log, edits, told):
+    """The log of the edits that there are: those that were tried, and the others as it had them."""
     git = lambda *words: subprocess.run(["git", "-C", TOP, *words], stdout=subprocess.PIPE, text=True).stdout.strip()
+    lines = {**lines_of(log), **told}
+    parts = {}
+    for edit in edits:
+        parts.setdefault(edit.crate, []).append(lines.get(f"{edit.crate}/{edit.name}", f"  {edit.name}: NOT TRIED"))
     state = "" if not git("status", "--porcelain", "--", "crates") else ", with changes that are not committed"
-    return f"Each must-fail edit, and the fact that fails with it: written by tools/edits.py.\nCommit {git('rev-parse', 'HEAD')}{state}: {tally}.\n"
+    count = tally(line.split(": ")[1] for part in parts.values() for line in part)
+    heading = f"Each must-fail edit, and the fact that fails with it: written by tools/edits.py.\nCommit {git('rev-parse', 'HEAD')}{state}: {count}."
+    open(log, "w").write("\n\n".join([heading] + ["\n".join([crate, *part]) for crate, part in parts.items()]) + "\n")
+
+
+def tally(verdicts_told):
+    count = [*verdicts_told]
+    refused, worthless = count.count(REFUSED), count.count(WORTHLESS)
+    return f"{refused} refused, {len(count) - refused - worthless} not refused, {worthless} worthless"
 
 
 def main(words):
@@ -330,17 +353,15 @@ def main(words):
     crates = sorted({e.crate for e in chosen})
     count = int(os.environ.get("JOBS", "2"))
     several, jobs = ThreadPoolExecutor(count), ThreadPoolExecutor(count)
-    lines, verdicts_told = [], []
+    told, verdicts_told = {}, []
     for crate, answers in zip(crates, several.map(lambda c: tried(c, [e for e in chosen if e.crate == c], jobs), crates)):
-        lines += ["", crate] + ["  " + report(*answer) for answer in answers]
+        told.update((f"{crate}/{answer[0]}", "  " + report(*answer)) for answer in answers)
         verdicts_told += [verdict for name, verdict, reason in answers]
         print("\n".join(report(f"{crate}/{name}", verdict, reason) for name, verdict, reason in answers), flush=True)
-    refused, worthless = verdicts_told.count(REFUSED), verdicts_told.count(WORTHLESS)
-    tally = f"{refused} refused, {len(chosen) - refused - worthless} not refused, {worthless} worthless"
     if log:
-        open(log, "w").write(heading(tally) + "\n".join(lines) + "\n")
-    print(tally)
-    return refused != len(chosen)
+        write_log(log, edits, told)
+    print(tally(verdicts_told))
+    return {*verdicts_told} != {REFUSED}
 
 
 if __name__ == "__main__":
