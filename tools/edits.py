@@ -33,7 +33,7 @@ LISTED = {name: needs.split() for name, needs in (line.split("#")[0].split(":") 
 REFUSED, ACCEPTED, WORTHLESS, BAD = "refused", "NOT REFUSED", "WORTHLESS", "BAD EDIT"
 WIDTH = 198
 
-# What the prover says where the proof's text does not fit, whatever holds.
+# What the prover says first where the proof's text does not fit, whatever holds; in the hints behind that the same words may stand of something else.
 UNFIT = re.compile(r"has no (?:field|`)|not in scope|no occurrence of|needs a function \(or path\) type to bind|^\S+: error: `(?:Inv|μ)\b")
 # What it says too where a fact of another form stands in the place of the one that is wanted: unfit, if it says nothing else.
 FOLLOWS = re.compile(r"is applied to an argument but has type|explicit arguments? more than|not yet determined")
@@ -210,8 +210,11 @@ def judged(edit, said, status, alone):
         errors = ERROR.findall(said) or re.findall(r"^note: .*", said, re.M) or ([said] if status else [])
     if not errors:
         return (ACCEPTED, "") if alone else None
-    unfit = next((e for e in errors if UNFIT.search(e)), None) or (errors[0] if all(FOLLOWS.search(e) for e in errors) else None)
-    return (WORTHLESS, "the proof's text does not fit: " + fact(unfit)) if unfit else (REFUSED, fact(errors[0]))
+    unfit = [e for e in errors if UNFIT.search(e.split("\n")[0])]
+    # In one function's proof an answer that does not fit spoils the others; a changed definition is refused by every law that fails with it.
+    if (unfit if edit.where else len(unfit) == len(errors)) or all(FOLLOWS.search(e) for e in errors):
+        return WORTHLESS, "the proof's text does not fit: " + fact((unfit or errors)[0])
+    return REFUSED, fact(next((e for e in errors if e not in unfit)))
 
 
 def attempt(lot):

@@ -1,4 +1,4 @@
--- Lists that stand in an array beside a count: the first `count` count, and a count beyond the array is read as its length.
+-- Lists that stand in an array beside a count: the first `count` rows are meant; a count beyond the array is read as its length.
 use mathlib.Core.List.{List}
 use lib.ListN.{take}
 use Rattle.types.specs.declared.WindowNumber.{WindowNumber}

@@ -41,11 +41,11 @@ questionRow n reference url = record { number = record { 0 = n }; reference = re
 abbrev waitingRow : ℕ → Reference → Method → ℕ → Url → Seal → Waiting
 waitingRow n reference method body url seal = record { reference = reference; request = requestTo url n method body; url = url; seal = seal; address = record { 0 = 9 } }
 
-abbrev toWindow : ℕ → Reference
-toWindow w = Req (record { 0 = w })
+abbrev forWindow : ℕ → Reference
+forWindow w = Req (record { 0 = w })
 
-abbrev toDocument : ℕ → Reference
-toDocument d = Xhr (record { 0 = d }) (By 4)
+abbrev forDocument : ℕ → Reference
+forDocument d = Xhr (record { 0 = d }) (By 4)
 
 -- THE BROWSER. Window 9 and document 99 have no row.
 abbrev pub smallBrowser : Tables
@@ -73,17 +73,17 @@ smallBrowser cookies =
 smallBrowser localStorage = record { origin = record { host = record { 0 = 5 }; protocol = Plain }; value = record { 0 = 6 } } ∷ []
 smallBrowser sessionStorage = record { origin = record { host = record { 0 = 5 }; protocol = Plain }; top = record { 0 = 1 }; value = record { 0 = 8 } } ∷ []
 smallBrowser inputs = messageRow 11 ∷ messageRow 41 ∷ []
-smallBrowser pendingDNS = questionRow 1 (toWindow 1) (plain 7) ∷ questionRow 2 (toDocument 21) (plain 5) ∷ questionRow 3 (toWindow 9) (plain 8) ∷ []
+smallBrowser pendingDNS = questionRow 1 (forWindow 1) (plain 7) ∷ questionRow 2 (forDocument 21) (plain 5) ∷ questionRow 3 (forWindow 9) (plain 8) ∷ []
 smallBrowser pendingRequests =
-    waitingRow 4 (toWindow 1) Get 0 (address Plain 6 (Named 3)) Keyless
-    ∷ waitingRow 5 (toWindow 2) Post 5 (plain 6) Keyless
-    ∷ waitingRow 6 (toWindow 4) Get 0 (plain 6) Keyless
-    ∷ waitingRow 7 (toWindow 9) Get 0 (plain 8) Keyless
-    ∷ waitingRow 8 (toDocument 11) Get 0 (plain 5) Keyless
-    ∷ waitingRow 9 (toDocument 12) Get 0 (plain 5) Keyless
-    ∷ waitingRow 10 (toDocument 41) Get 0 (plain 5) Keyless
-    ∷ waitingRow 11 (toDocument 99) Get 0 (plain 5) Keyless
-    ∷ waitingRow 12 (toWindow 5) Get 0 (address Secure 5 Absent) (Keyed (record { 0 = 1 }))
+    waitingRow 4 (forWindow 1) Get 0 (address Plain 6 (Named 3)) Keyless
+    ∷ waitingRow 5 (forWindow 2) Post 5 (plain 6) Keyless
+    ∷ waitingRow 6 (forWindow 4) Get 0 (plain 6) Keyless
+    ∷ waitingRow 7 (forWindow 9) Get 0 (plain 8) Keyless
+    ∷ waitingRow 8 (forDocument 11) Get 0 (plain 5) Keyless
+    ∷ waitingRow 9 (forDocument 12) Get 0 (plain 5) Keyless
+    ∷ waitingRow 10 (forDocument 41) Get 0 (plain 5) Keyless
+    ∷ waitingRow 11 (forDocument 99) Get 0 (plain 5) Keyless
+    ∷ waitingRow 12 (forWindow 5) Get 0 (address Secure 5 Absent) (Keyed (record { 0 = 1 }))
     ∷ waitingRow 13 (Xhr (record { 0 = 51 }) Unmatched) Get 0 (address Secure 5 Absent) (Keyed (record { 0 = 2 }))
     ∷ []
 smallBrowser sts = record { host = record { 0 = 8 } } ∷ []
