@@ -334,7 +334,7 @@ def write_log(log, edits, told):
         parts.setdefault(edit.crate, []).append(lines.get(f"{edit.crate}/{edit.name}", f"  {edit.name}: NOT TRIED"))
     state = "" if not git("status", "--porcelain", "--", "crates") else ", with changes that are not committed"
     count = tally(line.split(": ")[1] for part in parts.values() for line in part)
-    heading = f"Each must-fail edit, and the fact that fails with it: written by tools/edits.py.\nCommit {git('rev-parse', 'HEAD')}{state}: {count}."
+    heading = f"Each must-fail edit, and the fact that fails with it: written by tools/edits.py, crate by crate; a crate whose text has not changed is not tried again.\nCommit {git('rev-parse', 'HEAD')}{state}: {count}."
     open(log, "w").write("\n\n".join([heading] + ["\n".join([crate, *part]) for crate, part in parts.items()]) + "\n")
 
 
