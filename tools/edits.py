@@ -31,7 +31,7 @@ KIT = os.path.dirname(os.path.dirname(os.path.realpath(shutil.which("rt"))))
 OWN = f"{KIT}/on/{platform.machine()}"
 LISTED = {name: needs.split() for name, needs in (line.split("#")[0].split(":") for line in open(f"{TOP}/crates.txt") if ":" in line.split("#")[0])}
 REFUSED, ACCEPTED, WORTHLESS, BAD = "refused", "NOT REFUSED", "WORTHLESS", "BAD EDIT"
-WIDTH = 198
+WIDTH = 300
 
 # What the prover says first where the proof's text does not fit, whatever holds; in the hints behind that the same words may stand of something else.
 UNFIT = re.compile(r"has no (?:field|`)|not in scope|no occurrence of|needs a function \(or path\) type to bind|^\S+: error: `(?:Inv|μ)\b")
@@ -214,7 +214,9 @@ def judged(edit, said, status, alone):
     # In one function's proof an answer that does not fit spoils the others; a changed definition is refused by every law that fails with it.
     if (unfit if edit.where else len(unfit) == len(errors)) or all(FOLLOWS.search(e) for e in errors):
         return WORTHLESS, "the proof's text does not fit: " + fact((unfit or errors)[0])
-    return REFUSED, fact(next((e for e in errors if e not in unfit)))
+    # What a call asks for comes first, and is often spelt out for one number; what is promised tells more.
+    fitting = sorted((e for e in errors if e not in unfit), key=lambda e: bool(re.search(r"-requires(?:-\d+)?`", e.split("\n")[0])))
+    return REFUSED, fact(fitting[0])
 
 
 def attempt(lot):
@@ -274,6 +276,12 @@ def tried(crate, edits, jobs):
     return [(edit.name, *told[edit]) for edit in edits]
 
 
+def short(term):
+    """A term with the way back through a function's places counted, and of a long one the middle left out."""
+    term = re.sub(r"(?: \.before){2,}", lambda m: f" .before^{m[0].count('.')}", term)
+    return term if len(term) <= 90 else f"{term[:54]} … {term[-32:]}"
+
+
 def fact(error):
     """What fails, in a line: of an error of several lines what is wanted and what is there, its names without their paths."""
     text = re.sub(r"\s+", " ", error)
@@ -282,13 +290,13 @@ def fact(error):
         return f"{found[1]}: what it ensures is not shown ({found[2]})"
     found = re.match(r"(?:note: )?\S+:\d+:\d+: (?:error: `([^`]*)`: )?(.*)", text)
     place, text = (f"`{found[1]}`: " if found[1] else "", found[2]) if found else ("", text)
+    text = re.sub(r"[\w·-]+(?:\.[\w·≡≤<+*∷-]+)+", lambda m: m[0].split(".")[-1], text.replace("mathlib.Core.", ""))
+    text = re.sub(r" ?\(tt \{0\}\)| ?\{\d+(?:, \d+)*\}", "", text)
     for pattern, words in REASONS:
         part = re.search(pattern, text)
         if part:
-            text = words.format(*part.groups())
-            break
-    text = re.sub(r"[\w·-]+(?:\.[\w·≡≤<+*∷-]+)+", lambda m: m[0].split(".")[-1], text.replace("mathlib.Core.", ""))
-    return place + re.sub(r" ?\(tt \{0\}\)| ?\{\d+(?:, \d+)*\}", "", text)
+            return place + words.format(*map(short, part.groups()))
+    return place + short(text)
 
 
 TERM = r"`([^`]*)`"
@@ -300,7 +308,7 @@ REASONS = [
     (rf"expected type {TERM},? but this has type {TERM}", "`{}` is wanted, and there is `{}`"),
     (rf"must be a path whose two ends are equal, and {TERM}", "left to show: `{}`"),
     (rf"no proof of {TERM}", "no proof of `{}`"),
-    (r"(does not follow from what it read.*)", "the goal {}"),
+    (r"the (?:goal|part) fails, at (.*?)(?:\. It read|$)", "what is left to show is false at {}"),
 ]
 
 

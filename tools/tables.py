@@ -9,7 +9,10 @@ tools/nine_tables.py describes the tables; FOLDER has the crates (`crates` besid
     src/lib.rt                   Found; first, keep, put, clear; the functions of the description
     src/rows.rt                  a row read from its numbers and written as them
     src/tests.rt                 Which, and its tests
+    src/changes.rt               of documents: what is changed in a row
     specs/Lib.antt Which.antt    what the tests of Which mean, and what else the contracts cite
+    specs/Filled.antt            of cookies: several put in
+    specs/Tidied.antt            of waiting rows: what is read of a row that was written
     proofs/Coded.antt            the numbers that are read are the row's
     proofs/ROOM/F/Proof.antt     one for each function that Rattle does not prove by itself
     must-fail/more/              EDITS, and the edits that the description names

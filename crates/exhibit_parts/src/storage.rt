@@ -1,4 +1,4 @@
-// What the origin keeps: in local storage (000 A7:5), and in session storage under its top-level window (000 A7:6). () where it keeps nothing.
+// What the origin keeps: in local storage (000 A7:6), and in session storage under its top-level window (000 A7:5). () where it keeps nothing.
 use csexp::write::empty_list;
 use csexp::write::optional;
 use memory::Memory;

@@ -1,4 +1,4 @@
-// Two numbers each: a window's parent and opener (000 Definition 29), the key of a waiting request.
+// Two numbers each: a window's parent and opener (000 Definitions 29 and 30), the key of a waiting request.
 use super::single::at;
 use memory::Memory;
 use types::DocumentNumber;

@@ -14,9 +14,10 @@ use Rattle.writing.specs.Wrote.{Wrote}
 use Rattle.stepping.specs.declared.Performed.{Performed}
 use Rattle.rehearsal.specs.declared.telling.Rehearsed.{Rehearsed}
 
--- room for the longest event: "An outgoing event has at most 4,096 bytes"
+-- whether there is room for the longest event: "An outgoing event has at most 4,096 bytes"
 pub record Wide (out : List ℕ) (place : ℕ) (r : Bool) : Type 0 where
   pub room : r ≡ true → place + 4096 ≤ length out
+  pub wide : place + 4096 ≤ length out → r ≡ true
 
 -- the verdict stands where the event was written, or there was none; else it is 7
 abbrev pub answered : Verdict → Written → Rehearsed

@@ -1,4 +1,4 @@
--- A step's code changes the memory table by table, and looks once, at the end, whether there was room. The definitions judge 6 "on the tables
+-- A step's code changes the memory table by table, and looks once, at the end, whether there was room. The definitions judge 6 on "the tables
 -- as they stand after the step": the two agree, since no table loses a row after it was given one.
 use mathlib.Core.Path.{_≡_}
 use mathlib.Core.Bool.{Bool, true, false, not, _&&_}

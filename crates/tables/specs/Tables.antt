@@ -22,7 +22,7 @@ Row pendingRequests = Waiting
 Row sts = StrictHost
 
 -- "Cookies: host, then unprefixed before prefixed, then name. Documents: window, then place in its history. Inputs: document, then
--- arrival there. The others: their number, host or origin (host, then P before S), session rows then by top window."
+-- arrival there. Both count from 1. The others: their number, host or origin (host, then P before S), session rows then by top window."
 abbrev pub Key : Table → Type 0
 Key windows = ℕ
 Key documents = ℕ × ℕ

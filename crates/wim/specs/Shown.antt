@@ -39,8 +39,8 @@ newsTerm (Posted w o m) = list (cons (atom (text "POSTMESSAGE")) (cons (labelled
 abbrev pub inputsTerm : Tables → DocumentNumber → Term
 inputsTerm b n = list (each (λ (i : Input). newsTerm (i .news)) (keep (λ (i : Input). sameDocument (i .document) n) (b inputs)))
 
--- THE TREE. "all inactive documents removed", "non-same-origin documents replaced by a limited document with the same nonce and the same
--- subwindow list", "headers for all documents set to ⟨⟩".
+-- THE TREE. "all inactive documents removed", "non-same-origin documents w.r.t. d replaced by a limited document d' with the same nonce
+-- and the same subwindow list", "headers for all documents set to ⟨⟩".
 -- (document location () referrer script scriptstate inputs subwindows 1:T), or (document subwindows)
 abbrev pub wholeDocument : Tables → Document → Terms → Term
 wholeDocument b d below =
