@@ -12,8 +12,8 @@ an edit is refused only where a fact fails. It is worthless where
 Edits of different functions are tried together: a function is proved by itself, so an edit in one body has no part in what is said of another. An edit is refused where its own
 function is. Edits of anything but one function's body are tried alone.
 
-`rt check` must have proved the crates before. JOBS (default 2) checks go at once. The last line is 'N refused, M not refused, K worthless'; --log writes all lines to a file, with the commit; crates that were
-not tried keep their lines there, which hold as long as their text is the same.
+`rt check` must have proved the crates before. JOBS (default 2) checks go at once. The last line is 'N refused, M not refused, K worthless'; --log writes all lines to a file, with the commit of each crate's; edits
+that were not tried keep their lines there, which hold as long as the text of their crate and of those below it is the same.
 """
 import functools
 import glob
@@ -328,22 +328,28 @@ def rows(edits):
 
 
 def lines_of(log):
-    """The line of each edit in the log as it stands."""
+    """The heading of each crate and the line of each edit in the log as it stands."""
     text = open(log).read() if os.path.exists(log) else ""
-    return {f"{part[0]}/{line[2:].split(':')[0]}": line for part in (part.split("\n") for part in text.strip().split("\n\n")[1:]) for line in part[1:]}
+    lines = {}
+    for heading, *part in (part.split("\n") for part in text.strip().split("\n\n")[1:]):
+        crate = heading.split(",")[0]
+        lines[crate] = heading
+        lines.update((f"{crate}/{line[2:].split(':')[0]}", line) for line in part)
+    return lines
 
 
 def write_log(log, edits, told):
     """The log of the edits that there are: those that were tried, and the others as it had them."""
     git = lambda *words: subprocess.run(["git", "-C", TOP, *words], stdout=subprocess.PIPE, text=True).stdout.strip()
-    lines = {**lines_of(log), **told}
+    state = " with changes" if git("status", "--porcelain", "--", "crates") else ""
+    tried = {crate: f"{crate}, at {git('rev-parse', '--short', 'HEAD')}{state}" for crate in {key.split("/")[0] for key in told}}
+    lines = {**lines_of(log), **tried, **told}
     parts = {}
     for edit in edits:
         parts.setdefault(edit.crate, []).append(lines.get(f"{edit.crate}/{edit.name}", f"  {edit.name}: NOT TRIED"))
-    state = "" if not git("status", "--porcelain", "--", "crates") else ", with changes that are not committed"
     count = tally(line.split(": ")[1] for part in parts.values() for line in part)
-    heading = f"Each must-fail edit, and the fact that fails with it: written by tools/edits.py, crate by crate; a crate whose text has not changed is not tried again.\nCommit {git('rev-parse', 'HEAD')}{state}: {count}."
-    open(log, "w").write("\n\n".join([heading] + ["\n".join([crate, *part]) for crate, part in parts.items()]) + "\n")
+    heading = f"Each must-fail edit, and the fact that fails with it, as tools/edits.py tells them: {count}.\nBehind a crate stands the commit at which it was tried last."
+    open(log, "w").write("\n\n".join([heading] + ["\n".join([lines.get(crate, crate), *part]) for crate, part in parts.items()]) + "\n")
 
 
 def tally(verdicts_told):
