@@ -1,8 +1,8 @@
 #!/usr/bin/env python3
-"""edits.py [--log FILE] [CRATE | CRATE/EDIT]...: tries must-fail edits, and says of each which fact fails with it. edits.py --rows: whether docs/PROMISES.md names just the edits that there are.
+"""edits.py [--log FILE] [CRATE | CRATE/EDIT]...: tries must-fail edits, and says of each what is no longer shown with it. edits.py --rows: whether docs/PROMISES.md names just the edits that there are.
 
 The gate tries the edits of crates/CRATE/must-fail/, each on a crate of its own and from nothing, and takes any error for a refusal; here those of must-fail/more/ are tried too, and
-an edit is refused only where a fact fails. It is worthless where
+an edit is refused only where something is no longer shown. It is worthless where
 
 - an error says no more than that the proof's text no longer fits the code's: a name that is gone, another number of statements before a place, an invariant over other locals;
 - it only exchanges two operands of which the order does not matter;
@@ -342,13 +342,14 @@ def write_log(log, edits, told):
     """The log of the edits that there are: those that were tried, and the others as it had them."""
     git = lambda *words: subprocess.run(["git", "-C", TOP, *words], stdout=subprocess.PIPE, text=True).stdout.strip()
     state = " with changes" if git("status", "--porcelain", "--", "crates") else ""
-    tried = {crate: f"{crate}, at {git('rev-parse', '--short', 'HEAD')}{state}" for crate in {key.split("/")[0] for key in told}}
+    whole = {edit.crate for edit in edits} - {edit.crate for edit in edits if f"{edit.crate}/{edit.name}" not in told}
+    tried = {crate: f"{crate}, at {git('rev-parse', '--short', 'HEAD')}{state}" for crate in whole}
     lines = {**lines_of(log), **tried, **told}
     parts = {}
     for edit in edits:
         parts.setdefault(edit.crate, []).append(lines.get(f"{edit.crate}/{edit.name}", f"  {edit.name}: NOT TRIED"))
     count = tally(line.split(": ")[1] for part in parts.values() for line in part)
-    heading = f"Each must-fail edit, and the fact that fails with it, as tools/edits.py tells them: {count}.\nBehind a crate stands the commit at which it was tried last."
+    heading = f"Each must-fail edit, and what is no longer shown with it, as tools/edits.py tells them: {count}.\nBehind a crate stands the commit at which all its edits were tried last."
     open(log, "w").write("\n\n".join([heading] + ["\n".join([lines.get(crate, crate), *part]) for crate, part in parts.items()]) + "\n")
 
 

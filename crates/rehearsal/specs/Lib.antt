@@ -1,3 +1,3 @@
--- What a step on text gives, and the numbers of its verdicts.
+-- What a step on text gives.
 pub mod Writes
 pub mod Rehearses

@@ -88,7 +88,7 @@ smallBrowser pendingRequests =
     ∷ []
 smallBrowser sts = record { host = record { 0 = 8 } } ∷ []
 
--- EVENTS. A script puts out state 7, the local value 6 and this session value beside its command.
+-- EVENTS. Beside its command a script puts out its state, 7, its local storage, 6, and its session storage.
 abbrev pub storing : ℕ → ℕ → Command → Event
 storing w session command = RunScript (record { 0 = w }) (record { state = record { 0 = 7 }; local = record { 0 = 6 }; session = record { 0 = session }; command = command })
 
