@@ -55,6 +55,7 @@ module _ {R K : Type 0} (key : R → K) (cmp : K → K → Order) where
   -- MEMBERS: a row of an edited table was there or is put.
   pub in_insert : (r : R) (l : List R) (x : R) → In x (insert key cmp r l) → (x ≡ r) ⊎ In x l
   unfolding insert
+  in_insert r [] x (inr x4) = elim x4 [ ]
   in_insert r [] x (inl e) = inl e
   in_insert r (y ∷ l) x i = go (cmp (key r) (key y)) i (in_insert r l x)
     where

@@ -43,6 +43,7 @@ module _ {R K : Type 0} (key : R → K) (cmp : K → K → Order) (O : Linear K 
   -- a row is found by its key
   pub at_in : (l : List R) (r : R) → Sorted key cmp l → In r l → at key cmp (key r) l ≡ some r
   unfolding find
+  at_in [] r s x'' = elim x'' [ ]
   at_in (x ∷ l) r s (inl e) = subst (λ (v : R). at key cmp (key v) (x ∷ l) ≡ some v) (sym e) (rw (same_self O (key x)))
   at_in (x ∷ l) r s (inr i) =
       let n : same (cmp (key r) (key x)) ≡ false = same_ne O (key r) (key x) (λ z. apart (ap (λ (k : K). cmp (key x) k) z ∙ O.self (key x)) (s.0 r i)) in

@@ -12,6 +12,7 @@ use Rattle.sorted.proofs.Never.{never}
 
 module _ {A : Type 0} where
   pub all_in : (P : A → Type 0) (l : List A) → All P l → (x : A) → In x l → P x
+  all_in P [] h x x4 = elim x4 [ ]
   all_in P (y ∷ l) h x (inl e) = subst P (sym e) h.0
   all_in P (y ∷ l) h x (inr i) = all_in P l h.1 x i
 
@@ -25,6 +26,7 @@ module _ {A : Type 0} where
   in_append (y ∷ l) m x (inr i) = elim (in_append l m x i) [ inl j ↦ inl (inr j) | inr j ↦ inr j ]
 
   pub in_left : (l m : List A) (x : A) → In x l → In x (l ++ m)
+  in_left [] m x x3 = elim x3 [ ]
   in_left (y ∷ l) m x (inl e) = inl e
   in_left (y ∷ l) m x (inr i) = inr (in_left l m x i)
 
@@ -35,6 +37,7 @@ module _ {A : Type 0} where
   -- KEPT: exactly the members that pass.
   pub in_keep : (q : A → Bool) (l : List A) (x : A) → In x (keep q l) → In x l × (q x ≡ true)
   unfolding keep
+  in_keep q [] x i = elim i [ ]
   in_keep q (y ∷ l) x i = go (q y) refl (in_keep q l x) i
     where
       go : (b : Bool) → q y ≡ b → (In x (keep q l) → In x l × (q x ≡ true)) → In x (cond b (y ∷ keep q l) (keep q l)) → ((x ≡ y) ⊎ In x l) × (q x ≡ true)
@@ -44,6 +47,7 @@ module _ {A : Type 0} where
 
   pub keep_in : (q : A → Bool) (l : List A) (x : A) → In x l → q x ≡ true → In x (keep q l)
   unfolding keep
+  keep_in q [] x i e = elim i [ ]
   keep_in q (y ∷ l) x i e = go (q y) refl i (λ j. keep_in q l x j e)
     where
       go : (b : Bool) → q y ≡ b → (x ≡ y) ⊎ In x l → (In x l → In x (keep q l)) → In x (cond b (y ∷ keep q l) (keep q l))
@@ -78,6 +82,7 @@ module _ {A : Type 0} where
 
   pub find-some : (q : A → Bool) (l : List A) (x : A) → In x l → q x ≡ true → (y : A) × (find q l ≡ some y)
   unfolding find
+  find-some q [] x i e = elim i [ ]
   find-some q (z ∷ l) x i e = go (q z) refl i (λ j. find-some q l x j e)
     where
       go : (b : Bool) → q z ≡ b → (x ≡ z) ⊎ In x l → (In x l → (y : A) × (find q l ≡ some y)) → (y : A) × (cond b (some z) (find q l) ≡ some y)

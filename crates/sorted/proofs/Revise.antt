@@ -13,10 +13,12 @@ use Rattle.sorted.proofs.Sorted.{only}
 -- IMAGES.
 module _ {A B : Type 0} (f : A → B) where
   pub in_map : (l : List A) (y : B) → In y (map f l) → (x : A) × In x l × (y ≡ f x)
+  in_map [] y x' = elim x' [ ]
   in_map (x ∷ l) y (inl e) = (x, inl refl, e)
   in_map (x ∷ l) y (inr i) = let z = in_map l y i in (z.0, inr z.1, z.2)
 
   pub map_in : (l : List A) (x : A) → In x l → In (f x) (map f l)
+  map_in [] x x3 = elim x3 [ ]
   map_in (y ∷ l) x (inl e) = inl (ap f e)
   map_in (y ∷ l) x (inr i) = inr (map_in l x i)
 

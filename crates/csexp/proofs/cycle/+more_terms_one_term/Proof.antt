@@ -44,54 +44,54 @@ abbrev one-term-below : ℕ → In 1 one-term-kinds.ps
 one-term-below t =
     and 1 one-term-kinds.ps (falls 1 one-term-kinds.ps ◌<◌ μ-one-term t) one-term.Pre
 
-abbrev more-terms-Inv-loop : more-terms-lts.invariant-loop
+abbrev more-terms-Inv-loop : more-terms-lts.invariant-loop-at
 more-terms-Inv-loop s at levels p₀ p = (at ≤ p) × ((r : ℕ) → Rest (shallows levels) s p tt r → Rest (shallows levels) s at tt r)
 
-abbrev more-terms-μ-loop : more-terms-lts.decreases-loop
+abbrev more-terms-μ-loop : more-terms-lts.decreases-loop-at
 more-terms-μ-loop s at levels p₀ p = length s - p
 
-more-terms-loop-holds : (t : ℕ) → more-terms-lts.Need-loop-init (mark-reads.Asked, mark-reads.Learnt, one-term-below t, one-term.Post) (more-terms-at t) more-terms.Post more-terms-Inv-loop more-terms-μ-loop
+more-terms-loop-holds : (t : ℕ) → more-terms-lts.Need-loop-at-init (mark-reads.Asked, mark-reads.Learnt, one-term-below t, one-term.Post) (more-terms-at t) more-terms.Post more-terms-Inv-loop more-terms-μ-loop
 more-terms-loop-holds t c = (omega arith, λ r x. x)
 
-more-terms-mark-requires : (t : ℕ) → more-terms-lts.Need-mark-requires (mark-reads.Asked, mark-reads.Learnt, one-term-below t, one-term.Post) (more-terms-at t) more-terms.Post more-terms-Inv-loop more-terms-μ-loop
+more-terms-mark-requires : (t : ℕ) → more-terms-lts.Need-mark-e-requires (mark-reads.Asked, mark-reads.Learnt, one-term-below t, one-term.Post) (more-terms-at t) more-terms.Post more-terms-Inv-loop more-terms-μ-loop
 more-terms-mark-requires t c κs = search rules
 
-more-terms-returns : (t : ℕ) → more-terms-lts.Need-returns (mark-reads.Asked, mark-reads.Learnt, one-term-below t, one-term.Post) (more-terms-at t) more-terms.Post more-terms-Inv-loop more-terms-μ-loop
-more-terms-returns t c = c.before.before.loop.invariant.1 _ (terms-end _ c.before.mark.ensures c.if1.true)
+more-terms-returns : (t : ℕ) → more-terms-lts.Need-returns-then-e-s (mark-reads.Asked, mark-reads.Learnt, one-term-below t, one-term.Post) (more-terms-at t) more-terms.Post more-terms-Inv-loop more-terms-μ-loop
+more-terms-returns t c = c.before.before.loop-at.invariant.1 _ (terms-end _ c.before.mark-e.ensures c.if-e-s.true)
 
-more-terms-one-term-requires : (t : ℕ) → more-terms-lts.Need-one-term-requires (mark-reads.Asked, mark-reads.Learnt, one-term-below t, one-term.Post) (more-terms-at t) more-terms.Post more-terms-Inv-loop more-terms-μ-loop
+more-terms-one-term-requires : (t : ℕ) → more-terms-lts.Need-one_term-n-requires (mark-reads.Asked, mark-reads.Learnt, one-term-below t, one-term.Post) (more-terms-at t) more-terms.Post more-terms-Inv-loop more-terms-μ-loop
 more-terms-one-term-requires t c κs = (omega arith, tt)
 
-more-terms-returns-2 : (t : ℕ) → more-terms-lts.Need-returns-2 (mark-reads.Asked, mark-reads.Learnt, one-term-below t, one-term.Post) (more-terms-at t) more-terms.Post more-terms-Inv-loop more-terms-μ-loop
-more-terms-returns-2 t c = c.before.before.before.before.loop.invariant.1 _ (terms-more _ c.before.before.before.mark.ensures c.before.before.if1.false c.before.one-term.ensures (rest-past c.if2.true (omega arith)))
+more-terms-returns-2 : (t : ℕ) → more-terms-lts.Need-returns-then-s-n (mark-reads.Asked, mark-reads.Learnt, one-term-below t, one-term.Post) (more-terms-at t) more-terms.Post more-terms-Inv-loop more-terms-μ-loop
+more-terms-returns-2 t c = c.before.before.before.before.loop-at.invariant.1 _ (terms-more _ c.before.before.before.mark-e.ensures c.before.before.if-e-s.false c.before.one_term-n.ensures (rest-past c.if-s-n.true (omega arith)))
 
-more-terms-loop-less : (t : ℕ) → more-terms-lts.Need-loop-smaller (mark-reads.Asked, mark-reads.Learnt, one-term-below t, one-term.Post) (more-terms-at t) more-terms.Post more-terms-Inv-loop more-terms-μ-loop
-more-terms-loop-less t c = let f = term-forward c.before.one-term.ensures c.if2.false in omega arith
+more-terms-loop-less : (t : ℕ) → more-terms-lts.Need-loop-at-smaller (mark-reads.Asked, mark-reads.Learnt, one-term-below t, one-term.Post) (more-terms-at t) more-terms.Post more-terms-Inv-loop more-terms-μ-loop
+more-terms-loop-less t c = let f = term-forward c.before.one_term-n.ensures c.if-s-n.false in omega arith
 
-more-terms-loop-again : (t : ℕ) → more-terms-lts.Need-loop-preserved (mark-reads.Asked, mark-reads.Learnt, one-term-below t, one-term.Post) (more-terms-at t) more-terms.Post more-terms-Inv-loop more-terms-μ-loop
-more-terms-loop-again t c = let f = term-forward c.before.one-term.ensures c.if2.false in
-    (omega arith, λ r x. c.before.before.before.before.loop.invariant.1 r (terms-more _ c.before.before.before.mark.ensures c.before.before.if1.false c.before.one-term.ensures x))
+more-terms-loop-again : (t : ℕ) → more-terms-lts.Need-loop-at-preserved (mark-reads.Asked, mark-reads.Learnt, one-term-below t, one-term.Post) (more-terms-at t) more-terms.Post more-terms-Inv-loop more-terms-μ-loop
+more-terms-loop-again t c = let f = term-forward c.before.one_term-n.ensures c.if-s-n.false in
+    (omega arith, λ r x. c.before.before.before.before.loop-at.invariant.1 r (terms-more _ c.before.before.before.mark-e.ensures c.before.before.if-e-s.false c.before.one_term-n.ensures x))
 
-one-term-mark-requires : (t : ℕ) → one-term-lts.Need-mark-requires (mark-reads.Asked, mark-reads.Learnt, more-terms-below t, more-terms.Post, atom-reads.Asked, atom-reads.Learnt) (one-term-at t) one-term.Post
+one-term-mark-requires : (t : ℕ) → one-term-lts.Need-mark-a-requires (mark-reads.Asked, mark-reads.Learnt, more-terms-below t, more-terms.Post, atom-reads.Asked, atom-reads.Learnt) (one-term-at t) one-term.Post
 one-term-mark-requires t c κs = search rules
 
-one-term-returns : (t : ℕ) → one-term-lts.Need-returns (mark-reads.Asked, mark-reads.Learnt, more-terms-below t, more-terms.Post, atom-reads.Asked, atom-reads.Learnt) (one-term-at t) one-term.Post
-one-term-returns t c = term_deep _ c.if2.true c.before.before.mark.ensures c.before.if1.true (omega arith)
+one-term-returns : (t : ℕ) → one-term-lts.Need-returns-then-levels-eq0 (mark-reads.Asked, mark-reads.Learnt, more-terms-below t, more-terms.Post, atom-reads.Asked, atom-reads.Learnt) (one-term-at t) one-term.Post
+one-term-returns t c = term_deep _ c.if-levels-eq0.true c.before.before.mark-a.ensures c.before.if-a-s.true (omega arith)
 
-one-term-sub-more-terms : (t : ℕ) → one-term-lts.Need-overflow-sub-more-terms (mark-reads.Asked, mark-reads.Learnt, more-terms-below t, more-terms.Post, atom-reads.Asked, atom-reads.Learnt) (one-term-at t) one-term.Post
+one-term-sub-more-terms : (t : ℕ) → one-term-lts.Need-overflow_sub-levels (mark-reads.Asked, mark-reads.Learnt, more-terms-below t, more-terms.Post, atom-reads.Asked, atom-reads.Learnt) (one-term-at t) one-term.Post
 one-term-sub-more-terms t c = omega arith
 
-one-term-more-terms-requires : (t : ℕ) → one-term-lts.Need-more-terms-requires (mark-reads.Asked, mark-reads.Learnt, more-terms-below t, more-terms.Post, atom-reads.Asked, atom-reads.Learnt) (one-term-at t) one-term.Post
-one-term-more-terms-requires t c κs = let f = mark-forward c.before.before.mark.ensures c.before.if1.true in (omega arith, tt)
+one-term-more-terms-requires : (t : ℕ) → one-term-lts.Need-more_terms-requires (mark-reads.Asked, mark-reads.Learnt, more-terms-below t, more-terms.Post, atom-reads.Asked, atom-reads.Learnt) (one-term-at t) one-term.Post
+one-term-more-terms-requires t c κs = let f = mark-forward c.before.before.mark-a.ensures c.before.if-a-s.true in (omega arith, tt)
 
-one-term-returns-2 : (t : ℕ) → one-term-lts.Need-returns-2 (mark-reads.Asked, mark-reads.Learnt, more-terms-below t, more-terms.Post, atom-reads.Asked, atom-reads.Learnt) (one-term-at t) one-term.Post
-one-term-returns-2 t c = term-list _ c.before.if2.false c.before.before.before.mark.ensures c.before.before.if1.true c.more-terms.ensures
+one-term-returns-2 : (t : ℕ) → one-term-lts.Need-returns-then-a-s (mark-reads.Asked, mark-reads.Learnt, more-terms-below t, more-terms.Post, atom-reads.Asked, atom-reads.Learnt) (one-term-at t) one-term.Post
+one-term-returns-2 t c = term-list _ c.before.if-levels-eq0.false c.before.before.before.mark-a.ensures c.before.before.if-a-s.true c.more_terms.ensures
 
-one-term-atom-requires : (t : ℕ) → one-term-lts.Need-atom-requires (mark-reads.Asked, mark-reads.Learnt, more-terms-below t, more-terms.Post, atom-reads.Asked, atom-reads.Learnt) (one-term-at t) one-term.Post
+one-term-atom-requires : (t : ℕ) → one-term-lts.Need-atom-p-requires (mark-reads.Asked, mark-reads.Learnt, more-terms-below t, more-terms.Post, atom-reads.Asked, atom-reads.Learnt) (one-term-at t) one-term.Post
 one-term-atom-requires t c κs = search rules
 
-one-term-returns-3 : (t : ℕ) → one-term-lts.Need-returns-3 (mark-reads.Asked, mark-reads.Learnt, more-terms-below t, more-terms.Post, atom-reads.Asked, atom-reads.Learnt) (one-term-at t) one-term.Post
-one-term-returns-3 t c = term-atom _ c.before.before.mark.ensures c.before.if1.false c.atom.ensures
+one-term-returns-3 : (t : ℕ) → one-term-lts.Need-returns (mark-reads.Asked, mark-reads.Learnt, more-terms-below t, more-terms.Post, atom-reads.Asked, atom-reads.Learnt) (one-term-at t) one-term.Post
+one-term-returns-3 t c = term-atom _ c.before.before.mark-a.ensures c.before.if-a-s.false c.atom-p.ensures
 
 pub +more_terms_one_term_spec : {M : Type 1} → statement M
 +more_terms_one_term_spec = close μ-more-terms μ-one-term (λ t. more-terms-lts.spec (mark-reads.Asked, mark-reads.Learnt, one-term-below t, one-term.Post)

@@ -5,14 +5,14 @@ use Rattle.csexp.proofs.Atoms.{string-there, string-short, string_not}
 use Rattle.csexp.proofs.leaf.atom.Statement.{statement}
 use Rattle.csexp.proofs.leaf.atom.Tie as tie
 
-returns : tie.Need-returns
-returns c = string-there _ c.before.before.before.decimal.ensures c.before.before.mark.ensures c.before.if1.true c.if2.true
+returns : tie.Need-returns-then-v-s
+returns c = string-there _ c.before.before.before.decimal-n.ensures c.before.before.mark-c.ensures c.before.if-c-s.true c.if-v-s.true
 
-returns-2 : tie.Need-returns-2
-returns-2 c = string-short _ c.before.before.before.decimal.ensures c.before.before.mark.ensures c.before.if1.true c.if2.false (omega arith)
+returns-2 : tie.Need-returns-else-v-s
+returns-2 c = string-short _ c.before.before.before.decimal-n.ensures c.before.before.mark-c.ensures c.before.if-c-s.true c.if-v-s.false (omega arith)
 
-returns-3 : tie.Need-returns-3
-returns-3 c = string_not _ c.before.before.decimal.ensures c.before.mark.ensures c.if1.false (omega arith)
+returns-3 : tie.Need-returns-else-c-s
+returns-3 c = string_not _ c.before.before.decimal-n.ensures c.before.mark-c.ensures c.if-c-s.false (omega arith)
 
 pub atom_spec : {M : Type 1} → statement M
 atom_spec =

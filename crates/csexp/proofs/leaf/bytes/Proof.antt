@@ -4,11 +4,11 @@ use Rattle.csexp.proofs.Atoms.{bytes-there, bytes_not}
 use Rattle.csexp.proofs.leaf.bytes.Statement.{statement}
 use Rattle.csexp.proofs.leaf.bytes.Tie as tie
 
-returns : tie.Need-returns
-returns c = bytes-there _ c.before.before.atom.ensures c.before.if1.true
+returns : tie.Need-returns-then-e-s
+returns c = bytes-there _ c.before.before.atom-p.ensures c.before.if-e-s.true
 
-returns-2 : tie.Need-returns-2
-returns-2 c = bytes_not _ c.before.before.atom.ensures c.before.if1.false
+returns-2 : tie.Need-returns-else-e-s
+returns-2 c = bytes_not _ c.before.atom-p.ensures c.if-e-s.false
 
 pub bytes_spec : {M : Type 1} → statement M
 bytes_spec =

@@ -14,94 +14,94 @@ use Rattle.csexp.proofs.leaf.decimal.Reads as reads
 use Rattle.csexp.proofs.leaf.decimal.Lts as lts
 use Rattle.csexp.proofs.leaf.digit.Reads as digit-reads
 
-abbrev invariant-loop : tie.invariant-loop
+abbrev invariant-loop : tie.invariant-loop-at
 invariant-loop s at cap f v₀ i₀ v i = (number_at s at ≡ run_at v s i) × (i ≤ length s) × (v ≤ cap)
 
-abbrev decreases-loop : tie.decreases-loop
+abbrev decreases-loop : tie.decreases-loop-at
 decreases-loop s at cap f v₀ i₀ v i = length s - i
 
-returns : tie.Need-returns invariant-loop decreases-loop
-returns c = counts_not _ _ _ (ap (decode (at_most _)) (number-none _ _ (sym c.before.digit.ensures ∙ c.if1.true))) (omega arith)
+returns : tie.Need-returns-then-f-eq10 invariant-loop decreases-loop
+returns c = counts_not _ _ _ (ap (decode (at_most _)) (number-none _ _ (sym c.before.digit-f.ensures ∙ c.if-f-eq10.true))) (omega arith)
 
-add-t9 : tie.Need-overflow-add-t9 invariant-loop decreases-loop
-add-t9 c = let h = digit-there _ _ (λ q. c.before.if1.false (c.before.before.digit.ensures ∙ q)) in omega arith
+add-t9 : tie.Need-overflow_add-result invariant-loop decreases-loop
+add-t9 c = let h = digit-there _ _ (λ q. c.before.if-f-eq10.false (c.before.before.digit-f.ensures ∙ q)) in omega arith
 
 -- a digit stands at the start, and it is f
-starts : (c : tie.Else2 invariant-loop decreases-loop)
+starts : (c : tie.Else-f-eq0 invariant-loop decreases-loop)
     → let a = c.before.before.before.before.args in
-    (a.at < length a.s.now) × (c.before.before.digit.result < 10) × (number_at a.s.now a.at ≡ run_at c.before.before.digit.result a.s.now (a.at + 1))
+    (a.at < length a.s.now) × (c.before.before.digit-f.result < 10) × (number_at a.s.now a.at ≡ run_at c.before.before.digit-f.result a.s.now (a.at + 1))
 starts c =
     let a = c.before.before.before.before.args in
-    let e = c.before.before.digit.ensures in
-    let is_digit : digit_at a.s.now a.at ≡ 10 → ⊥ = λ q. c.before.if1.false (e ∙ q) in
+    let e = c.before.before.digit-f.ensures in
+    let is_digit : digit_at a.s.now a.at ≡ 10 → ⊥ = λ q. c.before.if-f-eq10.false (e ∙ q) in
     let h = digit-there _ _ is_digit in
-    (h.0, omega arith, number_more _ _ is_digit (λ q. c.if2.false (e ∙ q)) ∙ ap (λ (d : ℕ). run_at d a.s.now (a.at + 1)) (sym e))
+    (h.0, omega arith, number_more _ _ is_digit (λ q. c.if-f-eq0.false (e ∙ q)) ∙ ap (λ (d : ℕ). run_at d a.s.now (a.at + 1)) (sym e))
 
-returns-2 : tie.Need-returns-2 invariant-loop decreases-loop
+returns-2 : tie.Need-returns-then-f-eq0 invariant-loop decreases-loop
 returns-2 c =
-    let e = c.before.before.digit.ensures in
-    let h = digit-there _ _ (λ q. c.before.if1.false (e ∙ q)) in
-    counts-there _ _ _ _ _ (number-zero _ _ (sym e ∙ c.if2.true)) (omega arith) (omega arith)
+    let e = c.before.before.digit-f.ensures in
+    let h = digit-there _ _ (λ q. c.before.if-f-eq10.false (e ∙ q)) in
+    counts-there _ _ _ _ _ (number-zero _ _ (sym e ∙ c.if-f-eq0.true)) (omega arith) (omega arith)
 
-returns-3 : tie.Need-returns-3 invariant-loop decreases-loop
+returns-3 : tie.Need-returns-then-cap-f invariant-loop decreases-loop
 returns-3 c =
     let h = starts c.before in
-    counts_not _ _ _ (ap (decode (at_most _)) h.2 ∙ run-over _ _ _ _ c.if3.true) (omega arith)
+    counts_not _ _ _ (ap (decode (at_most _)) h.2 ∙ run-over _ _ _ _ c.if-cap-f.true) (omega arith)
 
-add-i : tie.Need-overflow-add-i invariant-loop decreases-loop
+add-i : tie.Need-overflow_add-i invariant-loop decreases-loop
 add-i c = let h = starts c.before in omega arith
 
-loop-holds : tie.Need-loop-init invariant-loop decreases-loop
+loop-holds : tie.Need-loop-at-init invariant-loop decreases-loop
 loop-holds c = let h = starts c.before in (h.2, omega arith, omega arith)
 
 -- a digit stands at i, and it is d
-goes : (c : tie.Else4 invariant-loop decreases-loop)
+goes : (c : tie.Else-d-eq10 invariant-loop decreases-loop)
     → let a = c.before.before.before.before.before.before.before.before.args in
-    let l = c.before.before.loop in
-    let d = c.before.digit2.result in
+    let l = c.before.before.loop-at in
+    let d = c.before.digit-d.result in
     (l.i < length a.s.now) × (d < 10) × (number_at a.s.now a.at ≡ run_at (l.v * 10 + d) a.s.now (l.i + 1))
 goes c =
     let a = c.before.before.before.before.before.before.before.before.args in
-    let l = c.before.before.loop in
-    let e = c.before.digit2.ensures in
-    let is_digit : digit_at a.s.now l.i ≡ 10 → ⊥ = λ q. c.if4.false (e ∙ q) in
+    let l = c.before.before.loop-at in
+    let e = c.before.digit-d.ensures in
+    let is_digit : digit_at a.s.now l.i ≡ 10 → ⊥ = λ q. c.if-d-eq10.false (e ∙ q) in
     let h = digit-there _ _ is_digit in
     (h.0, omega arith, l.invariant.0 ∙ run_more _ _ _ is_digit ∙ ap (λ (d : ℕ). run_at (l.v * 10 + d) a.s.now (l.i + 1)) (sym e))
 
-returns-4 : tie.Need-returns-4 invariant-loop decreases-loop
+returns-4 : tie.Need-returns-then-d-eq10 invariant-loop decreases-loop
 returns-4 c =
-    let l = c.before.before.loop in
-    counts-there _ _ _ _ _ (l.invariant.0 ∙ run_none _ _ _ l.invariant.1 (sym c.before.digit2.ensures ∙ c.if4.true)) l.invariant.2 l.invariant.1
+    let l = c.before.before.loop-at in
+    counts-there _ _ _ _ _ (l.invariant.0 ∙ run_none _ _ _ l.invariant.1 (sym c.before.digit-d.ensures ∙ c.if-d-eq10.true)) l.invariant.2 l.invariant.1
 
-returns-5 : tie.Need-returns-5 invariant-loop decreases-loop
+returns-5 : tie.Need-returns-then-cap-v invariant-loop decreases-loop
 returns-5 c =
     let h = goes c.before in
     counts_not _ _ _ (ap (decode (at_most _)) h.2 ∙ run-over _ _ _ _ (omega arith)) (omega arith)
 
-mul-if6 : tie.Need-overflow-mul-if6 invariant-loop decreases-loop
+mul-if6 : tie.Need-overflow_mul-v invariant-loop decreases-loop
 mul-if6 c = omega arith
 
-sub-if6 : tie.Need-overflow-sub-if6 invariant-loop decreases-loop
+sub-if6 : tie.Need-overflow_sub-cap invariant-loop decreases-loop
 sub-if6 c = omega arith
 
-returns-6 : tie.Need-returns-6 invariant-loop decreases-loop
+returns-6 : tie.Need-returns-then-cap-v-2 invariant-loop decreases-loop
 returns-6 c =
     let h = goes c.before.before in
     counts_not _ _ _ (ap (decode (at_most _)) h.2 ∙ run-over _ _ _ _ (omega arith)) (omega arith)
 
-mul-v : tie.Need-overflow-mul-v invariant-loop decreases-loop
+mul-v : tie.Need-overflow_mul-v-in-loop-at invariant-loop decreases-loop
 mul-v c = omega arith
 
-add-v : tie.Need-overflow-add-v invariant-loop decreases-loop
+add-v : tie.Need-overflow_add-v invariant-loop decreases-loop
 add-v c = omega arith
 
-add-i-2 : tie.Need-overflow-add-i-2 invariant-loop decreases-loop
+add-i-2 : tie.Need-overflow_add-i-in-loop-at invariant-loop decreases-loop
 add-i-2 c = let h = goes c.before.before in omega arith
 
-loop-less : tie.Need-loop-smaller invariant-loop decreases-loop
+loop-less : tie.Need-loop-at-smaller invariant-loop decreases-loop
 loop-less c = let h = goes c.before.before in omega arith
 
-loop-again : tie.Need-loop-preserved invariant-loop decreases-loop
+loop-again : tie.Need-loop-at-preserved invariant-loop decreases-loop
 loop-again c = let h = goes c.before.before in (h.2, omega arith, omega arith)
 
 pub decimal_spec : {M : Type 1} → statement M

@@ -5,21 +5,21 @@ use Rattle.csexp.specs.Answers.{digit_at}
 use Rattle.csexp.proofs.leaf.digit.Statement.{statement}
 use Rattle.csexp.proofs.leaf.digit.Tie as tie
 
-returns : tie.Need-returns
+returns : tie.Need-returns-then-b-le57
 unfolding digit_at
-returns c = simp (lt-ltb _ _ c.before.before.before.if1.true, le-leb _ _ c.before.if2.true, le-leb _ _ c.if3.true)
+returns c = simp (lt-ltb _ _ c.before.before.before.if-i-s.true, le-leb _ _ c.before.if-b-ge48.true, le-leb _ _ c.if-b-le57.true)
 
-returns-2 : tie.Need-returns-2
+returns-2 : tie.Need-returns-else-b-le57
 unfolding digit_at
-returns-2 c = simp (lt-ltb _ _ c.before.before.before.if1.true, le-leb _ _ c.before.if2.true, lt-leb _ _ c.if3.false)
+returns-2 c = simp (lt-ltb _ _ c.before.before.before.if-i-s.true, le-leb _ _ c.before.if-b-ge48.true, lt-leb _ _ c.if-b-le57.false)
 
-returns-3 : tie.Need-returns-3
+returns-3 : tie.Need-returns-else-b-ge48
 unfolding digit_at
-returns-3 c = simp (lt-ltb _ _ c.before.before.if1.true, lt-leb _ _ c.if2.false)
+returns-3 c = simp (lt-ltb _ _ c.before.before.if-i-s.true, lt-leb _ _ c.if-b-ge48.false)
 
-returns-4 : tie.Need-returns-4
+returns-4 : tie.Need-returns-else-i-s
 unfolding digit_at
-returns-4 c = simp (le-ltb _ _ c.if1.false)
+returns-4 c = simp (le-ltb _ _ c.if-i-s.false)
 
 pub digit_spec : {M : Type 1} → statement M
 digit_spec = tie.close (tie.spec (λ c. search rules) (λ c. search rules) returns returns-2 returns-3 returns-4)

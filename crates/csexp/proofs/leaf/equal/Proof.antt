@@ -11,34 +11,34 @@ use Rattle.csexp.proofs.leaf.equal.Tie as tie
 use Rattle.csexp.proofs.leaf.equal.Reads as reads
 use Rattle.csexp.proofs.leaf.equal.Lts as lts
 
-abbrev invariant-loop : tie.invariant-loop
+abbrev invariant-loop : tie.invariant-loop-i
 invariant-loop a b i₀ i = (length a ≡ length b) × (i ≤ length a) × (same a b ≡ same (drop i a) (drop i b))
 
-abbrev decreases-loop : tie.decreases-loop
+abbrev decreases-loop : tie.decreases-loop-i
 decreases-loop a b i₀ i = length a - i
 
-returns : tie.Need-returns invariant-loop decreases-loop
-returns c = sym (same_length _ _ c.if1.true)
+returns : tie.Need-returns-then-a-b invariant-loop decreases-loop
+returns c = sym (same_length _ _ c.if-a-b.true)
 
-loop-holds : tie.Need-loop-init invariant-loop decreases-loop
+loop-holds : tie.Need-loop-i-init invariant-loop decreases-loop
 loop-holds c = (omega arith, omega arith, refl)
 
-returns-2 : tie.Need-returns-2 invariant-loop decreases-loop
+returns-2 : tie.Need-returns-then-a-i invariant-loop decreases-loop
 returns-2 c =
     let a = c.before.before.before.before.before.before.args in
-    let l = c.before.before.before.before.loop in
-    sym (l.invariant.2 ∙ same_more a.a.now a.b.now l.i (omega arith) (omega arith) ∙ simp (ne_eqb _ _ c.if2.true))
+    let l = c.before.before.before.before.loop-i in
+    sym (l.invariant.2 ∙ same_more a.a.now a.b.now l.i (omega arith) (omega arith) ∙ simp (ne_eqb _ _ c.if-a-i.true))
 
-loop-again : tie.Need-loop-preserved invariant-loop decreases-loop
+loop-again : tie.Need-loop-i-preserved invariant-loop decreases-loop
 loop-again c =
     let a = c.before.before.before.before.before.before.args in
-    let l = c.before.before.before.before.loop in
-    (l.invariant.0, omega arith, l.invariant.2 ∙ same_more a.a.now a.b.now l.i (omega arith) (omega arith) ∙ simp (eq-eqb _ _ c.if2.false))
+    let l = c.before.before.before.before.loop-i in
+    (l.invariant.0, omega arith, l.invariant.2 ∙ same_more a.a.now a.b.now l.i (omega arith) (omega arith) ∙ simp (eq-eqb _ _ c.if-a-i.false))
 
-returns-3 : tie.Need-returns-3 invariant-loop decreases-loop
+returns-3 : tie.Need-returns invariant-loop decreases-loop
 returns-3 c =
     let a = c.before.before.before.args in
-    let l = c.before.loop in
+    let l = c.before.loop-i in
     sym (l.invariant.2 ∙ same_end a.a.now a.b.now l.i (omega arith) (omega arith))
 
 pub equal_spec : {M : Type 1} → statement M

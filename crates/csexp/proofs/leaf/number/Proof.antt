@@ -8,23 +8,23 @@ use Rattle.csexp.proofs.leaf.number.Tie as tie
 use Rattle.csexp.proofs.leaf.number.Reads as reads
 use Rattle.csexp.proofs.leaf.number.Lts as lts
 
-returns : tie.Need-returns
+returns : tie.Need-returns-then-lo-v
 unfolding numeral
 returns c =
-    let d = c.before.before.before.decimal.ensures in
-    atom_gives _ _ _ c.before.before.before.before.bytes.ensures (numeral_yes _ _ _ d c.before.before.if1.true c.before.if2.true) c.atom.ensures
+    let d = c.before.before.before.decimal-n.ensures in
+    atom_gives _ _ _ c.before.before.before.before.bytes-b.ensures (numeral_yes _ _ _ d c.before.before.if-next-b.true c.before.if-lo-v.true) c.atom-p.ensures
 
-returns-2 : tie.Need-returns-2
+returns-2 : tie.Need-returns-else-lo-v
 unfolding numeral
 returns-2 c =
-    let d = c.before.before.decimal.ensures in
-    atom_refuses _ _ _ c.before.before.before.bytes.ensures (numeral-no _ _ _ d (λ q. c.if2.false)) (omega arith)
+    let d = c.before.before.decimal-n.ensures in
+    atom_refuses _ _ _ c.before.before.before.bytes-b.ensures (numeral-no _ _ _ d (λ q. c.if-lo-v.false)) (omega arith)
 
-returns-3 : tie.Need-returns-3
+returns-3 : tie.Need-returns-else-next-b
 unfolding numeral
 returns-3 c =
-    let d = c.before.decimal.ensures in
-    atom_refuses _ _ _ c.before.before.bytes.ensures (numeral-no _ _ _ d (λ q. absurd (c.if1.false q))) (omega arith)
+    let d = c.before.decimal-n.ensures in
+    atom_refuses _ _ _ c.before.before.bytes-b.ensures (numeral-no _ _ _ d (λ q. absurd (c.if-next-b.false q))) (omega arith)
 
 pub number_spec : {M : Type 1} → statement M
 number_spec =

@@ -12,17 +12,17 @@ use Rattle.csexp.proofs.leaf.word.Tie as tie
 abbrev whether : Bool → Option (Unit {0})
 whether t = cond t (some tt) none
 
-returns : tie.Need-returns
+returns : tie.Need-returns-then-equal
 unfolding word
 returns c =
     let e = c.before.before.equal.ensures in
-    atom_gives _ _ _ c.before.before.before.bytes.ensures (ap whether (sym e ∙ c.before.if1.true)) c.atom.ensures
+    atom_gives _ _ _ c.before.before.before.bytes-b.ensures (ap whether (sym e ∙ c.before.if-equal.true)) c.atom-p.ensures
 
-returns-2 : tie.Need-returns-2
+returns-2 : tie.Need-returns
 unfolding word
 returns-2 c =
     let e = c.before.equal.ensures in
-    atom_refuses _ _ _ c.before.before.bytes.ensures (ap whether (sym e ∙ c.if1.false)) (omega arith)
+    atom_refuses _ _ _ c.before.before.bytes-b.ensures (ap whether (sym e ∙ c.if-equal.false)) (omega arith)
 
 pub word_spec : {M : Type 1} → statement M
 word_spec = tie.close (tie.spec (λ c κs. search rules) (λ c κs. search rules) (λ c κs. search rules) returns returns-2)

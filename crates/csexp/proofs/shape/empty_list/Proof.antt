@@ -5,7 +5,7 @@ use Rattle.csexp.proofs.shape.empty_list.Statement.{statement}
 use Rattle.csexp.proofs.shape.empty_list.Tie as tie
 
 returns : tie.Need-returns
-returns c = opened c.before.mark.ensures (closed c.mark2.ensures)
+returns c = opened c.before.mark-a.ensures (closed c.mark.ensures)
 
 pub empty_list_spec : {M : Type 1} → statement M
 empty_list_spec = tie.close (tie.spec (λ c κs. search rules) (λ c κs. search rules) returns)

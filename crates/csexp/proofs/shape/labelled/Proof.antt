@@ -8,8 +8,8 @@ use Rattle.csexp.proofs.shape.labelled.Tie as tie
 returns : tie.Need-returns
 unfolding labelled_of
 returns c =
-    opened c.before.before.before.mark.ensures
-    (passed _ c.before.before.word.ensures (passed _ c.before.number.ensures (closed c.mark2.ensures)))
+    opened c.before.before.before.mark-a.ensures
+    (passed _ c.before.before.word-b.ensures (passed _ c.before.number-n.ensures (closed c.mark-e.ensures)))
 
 pub labelled_spec : {M : Type 1} → statement M
 labelled_spec =

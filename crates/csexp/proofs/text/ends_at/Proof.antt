@@ -7,17 +7,17 @@ use Rattle.csexp.proofs.text.ends_at.Statement.{statement}
 use Rattle.csexp.proofs.text.ends_at.Tie as tie
 
 -- a term ends behind where it starts
-sub-if2 : tie.Need-overflow-sub-if2
-sub-if2 c = let f = term-forward c.before.one-term.ensures c.if1.true in omega arith
+sub-if2 : tie.Need-overflow_sub-p
+sub-if2 c = let f = term-forward c.before.one_term-p.ensures c.if-p-s.true in omega arith
 
-returns : tie.Need-returns
-returns c = ending_there _ _ c.before.before.one-term.ensures c.before.if1.true c.if2.true
+returns : tie.Need-returns-then-p-at
+returns c = ending_there _ _ c.before.before.one_term-p.ensures c.before.if-p-s.true c.if-p-at.true
 
-returns-2 : tie.Need-returns-2
-returns-2 c = ending-long _ _ c.before.before.one-term.ensures c.before.if1.true c.if2.false
+returns-2 : tie.Need-returns-else-p-at
+returns-2 c = ending-long _ _ c.before.before.one_term-p.ensures c.before.if-p-s.true c.if-p-at.false
 
-returns-3 : tie.Need-returns-3
-returns-3 c = ending_not _ _ c.before.one-term.ensures c.if1.false
+returns-3 : tie.Need-returns-else-p-s
+returns-3 c = ending_not _ _ c.before.one_term-p.ensures c.if-p-s.false
 
 pub ends_at_spec : {M : Type 1} → statement M
 ends_at_spec = tie.close (tie.spec (λ c κs. search rules) sub-if2 returns returns-2 returns-3)

@@ -21,16 +21,16 @@ digits-at t = and 1 digits-kinds.ps (is 1 digits-kinds.ps μ-digits t) digits.Pr
 abbrev digits-below : ℕ → In 1 digits-kinds.ps
 digits-below t = and 1 digits-kinds.ps (falls 1 digits-kinds.ps ◌<◌ μ-digits t) digits.Pre
 
-digits-returns : (t : ℕ) → digits-lts.Need-returns (byte-Reads.Asked, byte-Reads.Learnt, digits-below t, digits.Post) (digits-at t) digits.Post
-digits-returns t c = digit-one _ c.before.before.before.before.if1.true c.before.before.byte.ensures
+digits-returns : (t : ℕ) → digits-lts.Need-returns-then-n-lt10 (byte-Reads.Asked, byte-Reads.Learnt, digits-below t, digits.Post) (digits-at t) digits.Post
+digits-returns t c = digit-one _ c.before.before.before.before.if-n-lt10.true c.before.before.byte.ensures
 
-digits-digits-requires : (t : ℕ) → digits-lts.Need-digits-requires (byte-Reads.Asked, byte-Reads.Learnt, digits-below t, digits.Post) (digits-at t) digits.Post
+digits-digits-requires : (t : ℕ) → digits-lts.Need-digits-p-requires (byte-Reads.Asked, byte-Reads.Learnt, digits-below t, digits.Post) (digits-at t) digits.Post
 digits-digits-requires t c κs = (omega arith, tt)
 
-digits-returns-2 : (t : ℕ) → digits-lts.Need-returns-2 (byte-Reads.Asked, byte-Reads.Learnt, digits-below t, digits.Post) (digits-at t) digits.Post
+digits-returns-2 : (t : ℕ) → digits-lts.Need-returns (byte-Reads.Asked, byte-Reads.Learnt, digits-below t, digits.Post) (digits-at t) digits.Post
 digits-returns-2 t c =
-    digit-more _ c.before.before.before.before.before.before.before.before.if1.false c.before.before.before.before.before.before.digits.ensures
-    c.before.before.byte2.ensures
+    digit-more _ c.before.before.before.before.before.before.before.before.if-n-lt10.false c.before.before.before.before.before.before.digits-p.ensures
+    c.before.before.byte-2.ensures
 
 pub +digits_spec : {M : Type 1} → statement M
 +digits_spec = close μ-digits λ t. digits-lts.spec (byte-Reads.Asked, byte-Reads.Learnt, digits-below t, digits.Post) (digits-at t) digits.Post

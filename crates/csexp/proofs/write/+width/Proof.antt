@@ -19,17 +19,17 @@ width-at t = and 0 width-kinds.ps (is 0 width-kinds.ps μ-width t) width.Pre
 abbrev width-below : ℕ → In 0 width-kinds.ps
 width-below t = and 0 width-kinds.ps (falls 0 width-kinds.ps ◌<◌ μ-width t) width.Pre
 
-width-returns : (t : ℕ) → width-lts.Need-returns (width-below t, width.Post) (width-at t) width.Post
-width-returns t c = (width_one _ c.if1.true, omega arith)
+width-returns : (t : ℕ) → width-lts.Need-returns-then-n-lt10 (width-below t, width.Post) (width-at t) width.Post
+width-returns t c = (width_one _ c.if-n-lt10.true, omega arith)
 
 width-width-requires : (t : ℕ) → width-lts.Need-width-requires (width-below t, width.Post) (width-at t) width.Post
 width-width-requires t c κs = (omega arith, tt)
 
-width-add-result : (t : ℕ) → width-lts.Need-overflow-add-result (width-below t, width.Post) (width-at t) width.Post
+width-add-result : (t : ℕ) → width-lts.Need-overflow_add-result (width-below t, width.Post) (width-at t) width.Post
 width-add-result t c = omega arith
 
-width-returns-2 : (t : ℕ) → width-lts.Need-returns-2 (width-below t, width.Post) (width-at t) width.Post
-width-returns-2 t c = (width-more _ _ c.before.if1.false c.width.ensures.0, omega arith)
+width-returns-2 : (t : ℕ) → width-lts.Need-returns (width-below t, width.Post) (width-at t) width.Post
+width-returns-2 t c = (width-more _ _ c.before.if-n-lt10.false c.width.ensures.0, omega arith)
 
 pub +width_spec : {M : Type 1} → statement M
 +width_spec = close μ-width λ t. width-lts.spec (width-below t, width.Post) (width-at t) width.Post

@@ -5,14 +5,14 @@ use Rattle.csexp.proofs.write.Leaves.{stored, counted, stopped}
 use Rattle.csexp.proofs.write.byte.Statement.{statement}
 use Rattle.csexp.proofs.write.byte.Tie as tie
 
-returns : tie.Need-returns
-returns c = stored _ _ _ c.if1.true (omega arith)
+returns : tie.Need-returns-then-at-out
+returns c = stored _ _ _ c.if-at-out.true (omega arith)
 
-returns-2 : tie.Need-returns-2
-returns-2 c = counted _ _ _ c.before.if1.false c.if2.true
+returns-2 : tie.Need-returns-then-at-lt-MOST
+returns-2 c = counted _ _ _ c.before.if-at-out.false c.if-at-lt-MOST.true
 
-returns-3 : tie.Need-returns-3
-returns-3 c = stopped _ _ _ c.before.if1.false c.if2.false (omega arith)
+returns-3 : tie.Need-returns
+returns-3 c = stopped _ _ _ c.before.if-at-out.false c.if-at-lt-MOST.false (omega arith)
 
 pub byte_spec : {M : Type 1} → statement M
 byte_spec =

@@ -13,25 +13,25 @@ use Rattle.csexp.proofs.write.bytes.Reads as reads
 use Rattle.csexp.proofs.write.bytes.Lts as lts
 use Rattle.csexp.proofs.write.byte.Reads as byte-Reads
 
-abbrev invariant-loop : tie.invariant-loop
+abbrev invariant-loop : tie.invariant-loop-i
 invariant-loop out₀ at w p₀ i₀ out p i = (i ≤ length w) × Puts (take i w) out₀ at out p × (length out ≡ length out₀)
 
-abbrev decreases-loop : tie.decreases-loop
+abbrev decreases-loop : tie.decreases-loop-i
 decreases-loop out₀ at w p₀ i₀ out p i = length w - i
 
-loop-holds : tie.Need-loop-init invariant-loop decreases-loop
+loop-holds : tie.Need-loop-i-init invariant-loop decreases-loop
 loop-holds c = (omega arith, puts_none _ _ (omega arith), search rules)
 
-loop-again : tie.Need-loop-preserved invariant-loop decreases-loop
+loop-again : tie.Need-loop-i-preserved invariant-loop decreases-loop
 loop-again c =
-    let l = c.before.before.before.before.before.before.loop in
-    (omega arith, puts_one _ _ c.before.before.before.before.before.loop-test.true l.invariant.1 c.before.before.byte.ensures, c.before.before.byte.auto.0 ∙ l.invariant.2)
+    let l = c.before.before.before.before.before.before.loop-i in
+    (omega arith, puts_one _ _ c.before.before.before.before.before.loop-i-test.true l.invariant.1 c.before.before.byte-p.ensures, c.before.before.byte-p.auto.out ∙ l.invariant.2)
 
-same_length : tie.Need-same-length invariant-loop decreases-loop
+same_length : tie.Need-shape_of-out invariant-loop decreases-loop
 same_length c = search rules
 
 returns : tie.Need-returns invariant-loop decreases-loop
-returns c = puts-end _ _ c.loop-test.false c.before.loop.invariant.1
+returns c = puts-end _ _ c.loop-i-test.false c.before.loop-i.invariant.1
 
 pub bytes_spec : {M : Type 1} → statement M
 bytes_spec =

@@ -8,9 +8,9 @@ use Rattle.csexp.proofs.write.labelled.Tie as tie
 returns : tie.Need-returns
 unfolding labelled
 returns c =
-    opened-word c.before.before.before.before.before.before.before.before.before.before.open-word.ensures
-    (passed c.before.before.before.before.before.before.number.ensures
-    (closed c.before.before.close-list.ensures))
+    opened-word c.before.before.before.before.before.before.before.before.before.before.open_word-a.ensures
+    (passed c.before.before.before.before.before.before.number-b.ensures
+    (closed c.before.before.close_list.ensures))
 
 pub labelled_spec : {M : Type 1} → statement M
 labelled_spec =

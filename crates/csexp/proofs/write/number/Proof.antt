@@ -6,8 +6,8 @@ use Rattle.csexp.proofs.write.number.Tie as tie
 
 returns : tie.Need-returns
 returns c =
-    numeric _ _ c.before.before.before.before.before.before.before.before.before.before.before.before.width.ensures.0 c.before.before.before.before.before.before.before.before.before.before.digits.ensures c.before.before.before.before.before.before.byte.ensures
-    c.before.before.digits2.ensures
+    numeric _ _ c.before.before.before.before.before.before.before.before.before.before.before.before.width-k.ensures.0 c.before.before.before.before.before.before.before.before.before.before.digits-p.ensures c.before.before.before.before.before.before.byte-q.ensures
+    c.before.before.digits.ensures
 
 pub number_spec : {M : Type 1} → statement M
 number_spec =

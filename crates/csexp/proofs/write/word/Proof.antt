@@ -5,7 +5,7 @@ use Rattle.csexp.proofs.write.word.Statement.{statement}
 use Rattle.csexp.proofs.write.word.Tie as tie
 
 returns : tie.Need-returns
-returns c = atomic c.before.before.before.before.before.before.before.before.before.before.digits.ensures c.before.before.before.before.before.before.byte.ensures c.before.before.bytes.ensures
+returns c = atomic c.before.before.before.before.before.before.before.before.before.before.digits-p.ensures c.before.before.before.before.before.before.byte-q.ensures c.before.before.bytes.ensures
 
 pub word_spec : {M : Type 1} → statement M
 word_spec =

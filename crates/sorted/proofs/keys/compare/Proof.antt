@@ -7,6 +7,6 @@ pub compare_spec : {M : Type 1} → statement M
 compare_spec =
     tie.close
     (tie.spec
-    (λ c. rw (lt-ltb _ _ c.if1.true))
-    (λ c. rw (le-ltb _ _ c.before.if1.false, lt-ltb _ _ c.if2.true))
-    (λ c. rw (le-ltb _ _ c.before.if1.false, le-ltb _ _ c.if2.false)))
+    (λ c. rw (lt-ltb _ _ c.if-a-b.true))
+    (λ c. rw (le-ltb _ _ c.before.if-a-b.false, lt-ltb _ _ c.if-b-a.true))
+    (λ c. rw (le-ltb _ _ c.before.if-a-b.false, le-ltb _ _ c.if-b-a.false)))
