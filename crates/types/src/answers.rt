@@ -3,24 +3,24 @@ use super::commands::{Script, ScriptState};
 use super::cookies::SetCookies;
 use super::{Address, DnsNumber, Host, Policy, RequestNumber, Url};
 
-#[derive(Drop)]
+#[derive(Clone, Copy)]
 pub struct Status(pub u16);
 
-#[derive(Drop)]
+#[derive(Clone, Copy)]
 pub enum Location {
     Nowhere,
     To(Url),
 }
 
 // A number, or a page: a script with its first state.
-#[derive(Drop)]
+#[derive(Clone, Copy)]
 pub enum Body {
     Number(u32),
     Page(Script, ScriptState),
 }
 
 // The headers of an answer; `set` says whether Set-Cookie is among them, since it may be there and empty.
-#[derive(Drop)]
+#[derive(Clone, Copy)]
 pub struct Headers {
     pub set: bool,
     pub cookies: SetCookies,
@@ -30,7 +30,7 @@ pub struct Headers {
 }
 
 // The cookies of Set-Cookie stand beside, since an enum holds no array.
-#[derive(Drop)]
+#[derive(Clone, Copy)]
 pub struct Answer {
     pub number: RequestNumber,
     pub status: Status,
@@ -41,13 +41,13 @@ pub struct Answer {
 }
 
 // An answer as it is read, with its cookies.
-#[derive(Drop)]
+#[derive(Clone, Copy)]
 pub struct Reply {
     pub answer: Answer,
     pub cookies: SetCookies,
 }
 
-#[derive(Drop)]
+#[derive(Clone, Copy)]
 pub struct DnsAnswer {
     pub host: Host,
     pub address: Address,

@@ -1,34 +1,34 @@
 // What a script commands: 000 A7, lines 19 to 86.
 use super::{Data, Matching, Method, Origin, Url, WindowNumber};
 
-#[derive(Drop)]
+#[derive(Clone, Copy)]
 pub struct Script(pub u32);
 
-#[derive(Drop)]
+#[derive(Clone, Copy)]
 pub struct ScriptState(pub u32);
 
 // Where a page is to be loaded: into a new window (`_BLANK`, and urlbar's `new`) or into one that is there.
-#[derive(Drop)]
+#[derive(Clone, Copy)]
 pub enum Target {
     NewWindow,
     Existing(WindowNumber),
 }
 
 // Under which window a frame is hung: the script's own (`_SELF`, or `SELF`) or another.
-#[derive(Drop)]
+#[derive(Clone, Copy)]
 pub enum Holder {
     Itself,
     Within(WindowNumber),
 }
 
 // For whom a message is: any origin (000's ⊥) or one.
-#[derive(Drop)]
+#[derive(Clone, Copy)]
 pub enum Addressee {
     Anyone,
     Only(Origin),
 }
 
-#[derive(Drop)]
+#[derive(Clone, Copy)]
 pub enum Command {
     Nothing,
     Href(Url, Target, bool),

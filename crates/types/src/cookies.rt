@@ -1,16 +1,16 @@
 // Cookies: 000 Definition 14.
 
 // With the prefix __Host, or without.
-#[derive(Drop)]
+#[derive(Clone, Copy)]
 pub struct CookieName {
     pub prefixed: bool,
     pub number: u16,
 }
 
-#[derive(Drop)]
+#[derive(Clone, Copy)]
 pub struct CookieValue(pub u32);
 
-#[derive(Drop)]
+#[derive(Clone, Copy)]
 pub struct Cookie {
     pub name: CookieName,
     pub value: CookieValue,
@@ -20,7 +20,7 @@ pub struct Cookie {
 }
 
 // What a request carries of a cookie.
-#[derive(Drop)]
+#[derive(Clone, Copy)]
 pub struct Pair {
     pub name: CookieName,
     pub value: CookieValue,
@@ -28,14 +28,14 @@ pub struct Pair {
 
 // The cookies of one answer or of one script step. In an item those past the count are blank, so that two equal lists are equal values; of what is merged only
 // the first `count` say something.
-#[derive(Drop)]
+#[derive(Clone, Copy)]
 pub struct SetCookies {
     pub rows: [Cookie; 4],
     pub count: usize,
 }
 
 // A request's Cookie header, as many as the cookie table has rows for. Those past the count are blank.
-#[derive(Drop)]
+#[derive(Clone, Copy)]
 pub struct Jar {
     pub rows: [Pair; 64],
     pub count: usize,

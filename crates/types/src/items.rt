@@ -5,11 +5,11 @@ use super::cookies::SetCookies;
 use super::{Fresh, KeyNumber, Url, WindowNumber};
 
 // A value of local or session storage; 0 has no row.
-#[derive(Drop)]
+#[derive(Clone, Copy)]
 pub struct Stored(pub u32);
 
 // What a script puts out (000 A7:10); its cookies stand beside the event.
-#[derive(Drop)]
+#[derive(Clone, Copy)]
 pub struct Output {
     pub state: ScriptState,
     pub local: Stored,
@@ -18,7 +18,7 @@ pub struct Output {
 }
 
 // What happens to a browser, with the choices that 000 A9 leaves open.
-#[derive(Drop)]
+#[derive(Clone, Copy)]
 pub enum Event {
     RunScript(WindowNumber, Output),
     Urlbar(Target, Url),
@@ -32,13 +32,13 @@ pub enum Event {
 }
 
 // An event with the cookies that it brings, of a script or of an answer: an enum holds no array.
-#[derive(Drop)]
+#[derive(Clone, Copy)]
 pub struct Happening {
     pub event: Event,
     pub cookies: SetCookies,
 }
 
-#[derive(Drop)]
+#[derive(Clone, Copy)]
 pub struct Item {
     pub event: Event,
     pub cookies: SetCookies,

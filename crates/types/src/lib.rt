@@ -11,23 +11,23 @@ use cookies::Jar;
 
 // The five labels. Each number is a struct of its own, so that a window's is never taken for a document's (01 "Numbers, names, sizes").
 
-#[derive(Drop)]
+#[derive(Clone, Copy)]
 pub struct WindowNumber(pub u32);
 
-#[derive(Drop)]
+#[derive(Clone, Copy)]
 pub struct DocumentNumber(pub u32);
 
-#[derive(Drop)]
+#[derive(Clone, Copy)]
 pub struct RequestNumber(pub u32);
 
-#[derive(Drop)]
+#[derive(Clone, Copy)]
 pub struct DnsNumber(pub u32);
 
-#[derive(Drop)]
+#[derive(Clone, Copy)]
 pub struct KeyNumber(pub u32);
 
 // A number under its label.
-#[derive(Drop)]
+#[derive(Clone, Copy)]
 pub enum Label {
     OfWindow(WindowNumber),
     OfRequest(RequestNumber),
@@ -37,7 +37,7 @@ pub enum Label {
 }
 
 // The numbers that a step brings, in 01's order; 0 stands for one that is not given.
-#[derive(Drop)]
+#[derive(Clone, Copy)]
 pub struct Fresh {
     pub window: WindowNumber,
     pub request: RequestNumber,
@@ -47,7 +47,7 @@ pub struct Fresh {
 }
 
 // Which fresh numbers a step needs.
-#[derive(Drop)]
+#[derive(Clone, Copy)]
 pub struct Wants {
     pub window: bool,
     pub request: bool,
@@ -57,14 +57,14 @@ pub struct Wants {
 }
 
 // Some windows, by number: as many as there may be, and one more. The first `count` count, and a count beyond the room for them is read as that.
-#[derive(Drop)]
+#[derive(Clone, Copy)]
 pub struct WindowNumbers {
     pub rows: [WindowNumber; 33],
     pub count: usize,
 }
 
 // Some documents, by number: as many as there may be.
-#[derive(Drop)]
+#[derive(Clone, Copy)]
 pub struct DocumentNumbers {
     pub rows: [DocumentNumber; 64],
     pub count: usize,
@@ -73,37 +73,37 @@ pub struct DocumentNumbers {
 // Addresses on the wire and in the address bar: 000 Definitions 12 and 13.
 
 // A host's name.
-#[derive(Drop)]
+#[derive(Clone, Copy)]
 pub struct Host(pub u16);
 
 // A network address, an element of 000's IPs.
-#[derive(Drop)]
+#[derive(Clone, Copy)]
 pub struct Address(pub u16);
 
 // 0 is "/".
-#[derive(Drop)]
+#[derive(Clone, Copy)]
 pub struct Path(pub u16);
 
 // 0 is the empty dictionary.
-#[derive(Drop)]
+#[derive(Clone, Copy)]
 pub struct Parameters(pub u32);
 
 // 000's P and S.
-#[derive(Drop)]
+#[derive(Clone, Copy)]
 pub enum Protocol {
     Plain,
     Secure,
 }
 
 // An absent fragment and the fragment 0 are one.
-#[derive(Drop)]
+#[derive(Clone, Copy)]
 pub enum Fragment {
     Absent,
     Named(u32),
 }
 
 // 000 Definition 12.
-#[derive(Drop)]
+#[derive(Clone, Copy)]
 pub struct Url {
     pub protocol: Protocol,
     pub host: Host,
@@ -113,7 +113,7 @@ pub struct Url {
 }
 
 // 000 Definition 13.
-#[derive(Drop)]
+#[derive(Clone, Copy)]
 pub struct Origin {
     pub host: Host,
     pub protocol: Protocol,
@@ -122,7 +122,7 @@ pub struct Origin {
 // Requests: 000 Definition 15 (12), and what is remembered of them while they wait.
 
 // The eight of RFC 9110.
-#[derive(Drop)]
+#[derive(Clone, Copy)]
 pub enum Method {
     Get,
     Head,
@@ -135,11 +135,11 @@ pub enum Method {
 }
 
 // A request's body, a form's data; 0 is the empty term.
-#[derive(Drop)]
+#[derive(Clone, Copy)]
 pub struct Data(pub u32);
 
 // The Origin header: absent, 000's ◇, or an origin.
-#[derive(Drop)]
+#[derive(Clone, Copy)]
 pub enum OriginHeader {
     Unsent,
     Null,
@@ -147,14 +147,14 @@ pub enum OriginHeader {
 }
 
 // The Referer header, a document's referrer; 000's ⊥ is Unknown.
-#[derive(Drop)]
+#[derive(Clone, Copy)]
 pub enum Referrer {
     Unknown,
     Known(Url),
 }
 
 // The header ReferrerPolicy; 000's ⊥ is Unset.
-#[derive(Drop)]
+#[derive(Clone, Copy)]
 pub enum Policy {
     Unset,
     NoReferrer,
@@ -162,28 +162,28 @@ pub enum Policy {
 }
 
 // The number by which a script knows its XHR's answer again; 000's ⊥ is Unmatched.
-#[derive(Drop)]
+#[derive(Clone, Copy)]
 pub enum Matching {
     Unmatched,
     By(u32),
 }
 
 // 000 Definition 32: whom an answer is for, a window or the script of a document.
-#[derive(Drop)]
+#[derive(Clone, Copy)]
 pub enum Reference {
     Req(WindowNumber),
     Xhr(DocumentNumber, Matching),
 }
 
 // What CANCELNAV (000 A3) is given: a reference, or a window's number without its label, which equals no reference.
-#[derive(Drop)]
+#[derive(Clone, Copy)]
 pub enum Cancelled {
     Bare(WindowNumber),
     Labelled(Reference),
 }
 
 // 000 Definition 15 (12), with the headers that a browser sends.
-#[derive(Drop)]
+#[derive(Clone, Copy)]
 pub struct Request {
     pub number: RequestNumber,
     pub method: Method,
@@ -197,7 +197,7 @@ pub struct Request {
 }
 
 // What HTTP_SEND (000 A4) is given; the request's host and path are the address's.
-#[derive(Drop)]
+#[derive(Clone, Copy)]
 pub struct Sending {
     pub reference: Reference,
     pub method: Method,
@@ -210,14 +210,14 @@ pub struct Sending {
 }
 
 // The key of a request that went out encrypted; 000's ⊥ is Keyless.
-#[derive(Drop)]
+#[derive(Clone, Copy)]
 pub enum Seal {
     Keyless,
     Keyed(KeyNumber),
 }
 
 // What goes out. The request of the last two stands beside, since an enum holds no array.
-#[derive(Drop)]
+#[derive(Clone, Copy)]
 pub enum Sent {
     Silence,
     Resolve(Host, DnsNumber),

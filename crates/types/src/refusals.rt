@@ -1,7 +1,7 @@
 // Why a step is refused (01 "Refusal numbers").
 
 // Which thing isn't there; all are refusal 3.
-#[derive(Drop)]
+#[derive(Clone, Copy)]
 pub enum Missing {
     NoWindow,
     NoDocument,
@@ -10,7 +10,7 @@ pub enum Missing {
     Mismatch,
 }
 
-#[derive(Drop)]
+#[derive(Clone, Copy)]
 pub enum Refusal {
     BadText,
     BadShape,
@@ -22,7 +22,7 @@ pub enum Refusal {
     Closed,
 }
 
-#[derive(Drop)]
+#[derive(Clone, Copy)]
 pub enum Verdict {
     Accepted,
     Refused(Refusal),

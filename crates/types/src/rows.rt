@@ -9,20 +9,20 @@ use super::{
 };
 
 // What a window hangs under.
-#[derive(Drop)]
+#[derive(Clone, Copy)]
 pub enum Parent {
     Top,
     Under(DocumentNumber),
 }
 
-#[derive(Drop)]
+#[derive(Clone, Copy)]
 pub enum Opener {
     Nobody,
     OpenedBy(WindowNumber),
 }
 
 // 000 Definition 29. Its documents are rows of their own.
-#[derive(Drop)]
+#[derive(Clone, Copy)]
 pub struct Window {
     pub number: WindowNumber,
     pub parent: Parent,
@@ -30,7 +30,7 @@ pub struct Window {
 }
 
 // 000 Definition 30, with the window that holds it and its place in that window's history, from 1 on. Of the headers it keeps ReferrerPolicy.
-#[derive(Drop)]
+#[derive(Clone, Copy)]
 pub struct Document {
     pub window: WindowNumber,
     pub place: u32,
@@ -43,19 +43,19 @@ pub struct Document {
     pub active: bool,
 }
 
-#[derive(Drop)]
+#[derive(Clone, Copy)]
 pub struct HostCookie {
     pub host: Host,
     pub cookie: Cookie,
 }
 
-#[derive(Drop)]
+#[derive(Clone, Copy)]
 pub struct LocalValue {
     pub origin: Origin,
     pub value: Stored,
 }
 
-#[derive(Drop)]
+#[derive(Clone, Copy)]
 pub struct SessionValue {
     pub origin: Origin,
     pub top: WindowNumber,
@@ -63,14 +63,14 @@ pub struct SessionValue {
 }
 
 // What a script input is: an XHR's answer, or a message with its sender's window and origin.
-#[derive(Drop)]
+#[derive(Clone, Copy)]
 pub enum News {
     Answered(Matching, Body),
     Posted(WindowNumber, Origin, u32),
 }
 
 // An input of a document's script, the arrival-th since it was loaded.
-#[derive(Drop)]
+#[derive(Clone, Copy)]
 pub struct Input {
     pub document: DocumentNumber,
     pub arrival: u32,
@@ -78,7 +78,7 @@ pub struct Input {
 }
 
 // A request that waits for the address of its host: 000's pendingDNS.
-#[derive(Drop)]
+#[derive(Clone, Copy)]
 pub struct Question {
     pub number: DnsNumber,
     pub reference: Reference,
@@ -87,7 +87,7 @@ pub struct Question {
 }
 
 // A request that waits for its answer: 000's pendingRequests.
-#[derive(Drop)]
+#[derive(Clone, Copy)]
 pub struct Waiting {
     pub reference: Reference,
     pub request: Request,
@@ -97,7 +97,7 @@ pub struct Waiting {
 }
 
 // A host that is spoken to over S alone.
-#[derive(Drop)]
+#[derive(Clone, Copy)]
 pub struct StrictHost {
     pub host: Host,
 }

@@ -28,10 +28,10 @@ add-t9 c = let h = digit-there _ _ (λ q. c.before.if-f-eq10.false (c.before.bef
 
 -- a digit stands at the start, and it is f
 starts : (c : tie.Else-f-eq0 invariant-loop decreases-loop)
-    → let a = c.before.before.before.before.args in
+    → let a = c.args in
     (a.at < length a.s.now) × (c.before.before.digit-f.result < 10) × (number_at a.s.now a.at ≡ run_at c.before.before.digit-f.result a.s.now (a.at + 1))
 starts c =
-    let a = c.before.before.before.before.args in
+    let a = c.args in
     let e = c.before.before.digit-f.ensures in
     let is_digit : digit_at a.s.now a.at ≡ 10 → ⊥ = λ q. c.before.if-f-eq10.false (e ∙ q) in
     let h = digit-there _ _ is_digit in
@@ -56,12 +56,12 @@ loop-holds c = let h = starts c.before in (h.2, omega arith, omega arith)
 
 -- a digit stands at i, and it is d
 goes : (c : tie.Else-d-eq10 invariant-loop decreases-loop)
-    → let a = c.before.before.before.before.before.before.before.before.args in
+    → let a = c.args in
     let l = c.before.before.loop-at in
     let d = c.before.digit-d.result in
     (l.i < length a.s.now) × (d < 10) × (number_at a.s.now a.at ≡ run_at (l.v * 10 + d) a.s.now (l.i + 1))
 goes c =
-    let a = c.before.before.before.before.before.before.before.before.args in
+    let a = c.args in
     let l = c.before.before.loop-at in
     let e = c.before.digit-d.ensures in
     let is_digit : digit_at a.s.now l.i ≡ 10 → ⊥ = λ q. c.if-d-eq10.false (e ∙ q) in

@@ -25,19 +25,19 @@ loop-holds c = (omega arith, omega arith, refl)
 
 returns-2 : tie.Need-returns-then-a-i invariant-loop decreases-loop
 returns-2 c =
-    let a = c.before.before.before.before.before.before.args in
+    let a = c.args in
     let l = c.before.before.before.before.loop-i in
     sym (l.invariant.2 ∙ same_more a.a.now a.b.now l.i (omega arith) (omega arith) ∙ simp (ne_eqb _ _ c.if-a-i.true))
 
 loop-again : tie.Need-loop-i-preserved invariant-loop decreases-loop
 loop-again c =
-    let a = c.before.before.before.before.before.before.args in
+    let a = c.args in
     let l = c.before.before.before.before.loop-i in
     (l.invariant.0, omega arith, l.invariant.2 ∙ same_more a.a.now a.b.now l.i (omega arith) (omega arith) ∙ simp (eq-eqb _ _ c.if-a-i.false))
 
 returns-3 : tie.Need-returns invariant-loop decreases-loop
 returns-3 c =
-    let a = c.before.before.before.args in
+    let a = c.args in
     let l = c.before.loop-i in
     sym (l.invariant.2 ∙ same_end a.a.now a.b.now l.i (omega arith) (omega arith))
 

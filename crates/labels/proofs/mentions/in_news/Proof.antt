@@ -7,4 +7,4 @@ use Rattle.labels.proofs.mentions.in_news.Tie as tie
 
 pub in_news_spec : {M : Type 1} → statement M
 in_news_spec = tie.close (tie.spec (λ c. search rules) (λ c. search rules) (λ c κs. tt) (λ c. search rules)
-    (λ c. rw c.before.before.p.given.1 (c.same.ensures ∙ sym (or_false _))))
+    (λ c. rw c.before.in-Posted.is (c.same.ensures ∙ sym (or_false _))))

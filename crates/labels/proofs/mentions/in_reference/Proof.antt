@@ -5,5 +5,5 @@ use Rattle.labels.proofs.mentions.in_reference.Tie as tie
 
 pub in_reference_spec : {M : Type 1} → statement M
 in_reference_spec = tie.close (tie.spec (λ c. search rules) (λ c κs. tt) (λ c. search rules) (λ c κs. tt)
-    (λ c. rw c.before.before.p.given.1 c.same.ensures)
-    (λ c. rw c.before.before.p2.given.1 c.same2.ensures))
+    (λ c. rw c.before.in-Req.is c.same.ensures)
+    (λ c. rw c.before.in-Xhr.is c.same-in-Xhr.ensures))

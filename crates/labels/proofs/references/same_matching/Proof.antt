@@ -5,4 +5,4 @@ use Rattle.labels.proofs.references.same_matching.Tie as tie
 
 pub same_matching_spec : {M : Type 1} → statement M
 same_matching_spec = tie.close (tie.spec (λ c. search rules) (λ c. search rules) (λ c. search rules) (λ c. search rules) (λ c. search rules) (λ c. search rules) (λ c. search rules) (λ c. search rules) (λ c. search rules)
-    (λ c. rw (c.before.before.before.before.m.given.1, c.before.n.given.1)))
+    (λ c. rw (c.before.in-By.is, c.in-By-n-2.is)))

@@ -5,5 +5,5 @@ use Rattle.layouts.proofs.addresses.fragment_of.Tie as tie
 
 pub fragment_of_spec : {M : Type 1} → statement M
 fragment_of_spec = tie.close (tie.spec
-    (λ c. rw c.match.keys1)
-    (λ c. rw (ne_eqb _ _ c.match.rest.1)))
+    (λ c. rw c.in-0.is)
+    (λ c. rw (ne_eqb _ _ c.in_default.in_default-own.rest.1)))

@@ -15,9 +15,9 @@ origin_at_spec = tie.close (tie.spec
     (λ c κs. tt)
     (λ c κs. tt)
     (λ c κs. tt)
-    (λ c. rw (sym (c.before.before.before.before.before.at.ensures 3 (omega arith)), c.match.keys1))
-    (λ c. rw (sym (c.before.before.before.before.before.at.ensures 3 (omega arith)), c.match.keys2))
-    (λ c. rw (sym (c.before.before.before.before.before.at.ensures 3 (omega arith)), ne_eqb _ _ c.match.rest.0.1, ne_eqb _ _ c.match.rest.1) (λ i. From (record {
-      host = record { 0 = (c.before.before.before.half.ensures ∙ ap (λ (n : ℕ). n % 65536) (c.before.before.before.before.at2.ensures 3 (omega arith))) i };
-      protocol = (c.before.protocol-of.ensures ∙ ap protocol_of (c.before.before.at3.ensures 3 (omega arith))) i;
+    (λ c. rw (sym (c.before.before.before.before.before.at-tag.ensures 3 (omega arith)), c.in-0.is))
+    (λ c. rw (sym (c.before.before.before.before.before.at-tag.ensures 3 (omega arith)), c.in-1.is))
+    (λ c. rw (sym (c.before.before.before.before.before.at-tag.ensures 3 (omega arith)), ne_eqb _ _ c.in_default.in_default-own.rest.0.1, ne_eqb _ _ c.in_default.in_default-own.rest.1) (λ i. From (record {
+      host = record { 0 = (c.before.before.before.half-h.ensures ∙ ap (λ (n : ℕ). n % 65536) (c.before.before.before.before.at.ensures 3 (omega arith))) i };
+      protocol = (c.before.protocol_of-over.ensures ∙ ap protocol_of (c.before.before.at-2.ensures 3 (omega arith))) i;
     }))))

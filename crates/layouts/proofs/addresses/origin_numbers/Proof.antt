@@ -13,4 +13,4 @@ origin_numbers_spec = tie.close (tie.spec
     (λ c κs. tt)
     (λ c. search rules)
     (λ c. search rules)
-    (λ c. rw (c.before.low.ensures, c.protocol-tag.ensures) (sym c.before.before.before.x.given.1)))
+    (λ c. rw (c.before.low-h.ensures, c.protocol_tag-p.ensures) (sym c.before.before.in-From.is)))

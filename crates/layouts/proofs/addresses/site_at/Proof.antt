@@ -12,4 +12,4 @@ site_at_spec = tie.close (tie.spec
     (λ c κs. tt)
     (λ c κs. tt)
     (λ c κs. tt)
-    (λ c. λ i. record { host = record { 0 = (c.half.ensures ∙ ap (λ (n : ℕ). n % 65536) (c.before.at2.ensures 2 (omega arith))) i }; protocol = (c.before.before.protocol-of.ensures ∙ ap protocol_of (c.before.before.before.at.ensures 2 (omega arith))) i }))
+    (λ c. λ i. record { host = record { 0 = (c.half.ensures ∙ ap (λ (n : ℕ). n % 65536) (c.before.at-2.ensures 2 (omega arith))) i }; protocol = (c.before.before.protocol_of-over.ensures ∙ ap protocol_of (c.before.before.before.at.ensures 2 (omega arith))) i }))

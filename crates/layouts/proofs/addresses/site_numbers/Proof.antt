@@ -6,4 +6,4 @@ pub site_numbers_spec : {M : Type 1} → statement M
 site_numbers_spec = tie.close (tie.spec
     (λ c κs. tt)
     (λ c κs. tt)
-    (λ c. λ i. record { host = record { 0 = c.before.low.ensures i }; protocol = c.protocol-tag.ensures i }))
+    (λ c. λ i. record { host = record { 0 = c.before.low-h.ensures i }; protocol = c.protocol_tag-p.ensures i }))

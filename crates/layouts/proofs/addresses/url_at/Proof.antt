@@ -19,9 +19,9 @@ url_at_spec = tie.close (tie.spec
     (λ c κs. tt)
     (λ c κs. tt)
     (λ c. λ i. record {
-      protocol = (c.before.before.before.before.before.before.before.before.protocol-of.ensures ∙ ap protocol_of (c.before.before.before.before.before.before.before.before.before.at.ensures 6 (omega arith))) i;
-      host = record { 0 = (c.before.before.before.half.ensures ∙ ap (λ (n : ℕ). n % 65536) (c.before.before.before.before.at4.ensures 6 (omega arith))) i };
-      path = record { 0 = (c.before.half2.ensures ∙ ap (λ (n : ℕ). n % 65536) (c.before.before.at5.ensures 6 (omega arith))) i };
-      parameters = record { 0 = c.at6.ensures 6 (omega arith) i };
-      fragment = (c.before.before.before.before.before.fragment-of.ensures ∙ ap₂ fragment_of (c.before.before.before.before.before.before.before.at2.ensures 6 (omega arith)) (c.before.before.before.before.before.before.at3.ensures 6 (omega arith))) i;
+      protocol = (c.before.before.before.before.before.before.before.before.protocol_of-protocol.ensures ∙ ap protocol_of (c.before.before.before.before.before.before.before.before.before.at.ensures 6 (omega arith))) i;
+      host = record { 0 = (c.before.before.before.half.ensures ∙ ap (λ (n : ℕ). n % 65536) (c.before.before.before.before.at-4.ensures 6 (omega arith))) i };
+      path = record { 0 = (c.before.half-2.ensures ∙ ap (λ (n : ℕ). n % 65536) (c.before.before.at-5.ensures 6 (omega arith))) i };
+      parameters = record { 0 = c.at-6.ensures 6 (omega arith) i };
+      fragment = (c.before.before.before.before.before.fragment_of-fragment.ensures ∙ ap₂ fragment_of (c.before.before.before.before.before.before.before.at-2.ensures 6 (omega arith)) (c.before.before.before.before.before.before.at-3.ensures 6 (omega arith))) i;
     }))

@@ -12,9 +12,9 @@ url_numbers_spec = tie.close (tie.spec
     (λ c. search rules)
     (λ c. search rules)
     (λ c. λ i. record {
-      protocol = c.before.before.before.protocol-tag.ensures i;
-      host = record { 0 = c.before.before.low.ensures i };
-      path = record { 0 = c.before.low2.ensures i };
-      parameters = record { 0 = c.before.before.before.before.args.x.parameters.0 };
-      fragment = c.fragment-numbers.ensures i;
+      protocol = c.before.before.before.protocol_tag-p.ensures i;
+      host = record { 0 = c.before.before.low-h.ensures i };
+      path = record { 0 = c.before.low-q.ensures i };
+      parameters = record { 0 = c.args.x.parameters.0 };
+      fragment = c.fragment_numbers-f.ensures i;
     }))

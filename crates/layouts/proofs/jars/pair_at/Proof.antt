@@ -14,6 +14,6 @@ pair_at_spec = tie.close (tie.spec
     (λ c κs. tt)
     (λ c κs. tt)
     (λ c. λ i. record {
-      name = record { prefixed = (c.before.flag-of.ensures ∙ ap flag_of (c.before.before.at2.ensures 3 (omega arith))) i; number = (c.before.before.before.half.ensures ∙ ap (λ (n : ℕ). n % 65536) (c.before.before.before.before.at.ensures 3 (omega arith))) i };
-      value = record { 0 = c.at3.ensures 3 (omega arith) i };
+      name = record { prefixed = (c.before.flag_of.ensures ∙ ap flag_of (c.before.before.at-2.ensures 3 (omega arith))) i; number = (c.before.before.before.half-n.ensures ∙ ap (λ (n : ℕ). n % 65536) (c.before.before.before.before.at.ensures 3 (omega arith))) i };
+      value = record { 0 = c.at-3.ensures 3 (omega arith) i };
     }))

@@ -6,4 +6,4 @@ pub pair_numbers_spec : {M : Type 1} → statement M
 pair_numbers_spec = tie.close (tie.spec
     (λ c κs. tt)
     (λ c κs. tt)
-    (λ c. λ i. record { name = record { prefixed = c.before.flag.ensures i; number = c.low.ensures i }; value = record { 0 = c.before.before.args.x.value.0 } }))
+    (λ c. λ i. record { name = record { prefixed = c.before.flag-f.ensures i; number = c.low-n.ensures i }; value = record { 0 = c.args.x.value.0 } }))

@@ -9,5 +9,5 @@ pub opener_at_spec : {M : Type 1} → statement M
 opener_at_spec = tie.close (tie.spec
     (λ c κs. tt)
     (λ c κs. tt)
-    (λ c. rw (sym (c.before.before.at.ensures 2 (omega arith)), c.match.keys1))
-    (λ c. rw (sym (c.before.before.at.ensures 2 (omega arith)), sym (c.before.at2.ensures 2 (omega arith)), ne_eqb _ _ c.match.rest.1)))
+    (λ c. rw (sym (c.before.before.at-tag.ensures 2 (omega arith)), c.in-0.is))
+    (λ c. rw (sym (c.before.before.at-tag.ensures 2 (omega arith)), sym (c.before.at-n.ensures 2 (omega arith)), ne_eqb _ _ c.in_default.in_default-own.rest.1)))

@@ -5,6 +5,6 @@ use Rattle.layouts.proofs.single.policy_of.Tie as tie
 
 pub policy_of_spec : {M : Type 1} → statement M
 policy_of_spec = tie.close (tie.spec
-    (λ c. rw c.match.keys1)
-    (λ c. rw c.match.keys2)
-    (λ c. rw (ne_eqb _ _ c.match.rest.0.1, ne_eqb _ _ c.match.rest.1)))
+    (λ c. rw c.in-0.is)
+    (λ c. rw c.in-1.is)
+    (λ c. rw (ne_eqb _ _ c.in_default.in_default-own.rest.0.1, ne_eqb _ _ c.in_default.in_default-own.rest.1)))

@@ -10,5 +10,5 @@ body_at_spec = tie.close (tie.spec
     (λ c κs. tt)
     (λ c κs. tt)
     (λ c κs. tt)
-    (λ c. rw (sym (c.before.before.before.at.ensures 3 (omega arith)), sym (c.before.before.at2.ensures 3 (omega arith)), c.match.keys1))
-    (λ c. rw (sym (c.before.before.before.at.ensures 3 (omega arith)), sym (c.before.before.at2.ensures 3 (omega arith)), sym (c.before.at3.ensures 3 (omega arith)), ne_eqb _ _ c.match.rest.1)))
+    (λ c. rw (sym (c.before.before.before.at-tag.ensures 3 (omega arith)), sym (c.before.before.at-n.ensures 3 (omega arith)), c.in-0.is))
+    (λ c. rw (sym (c.before.before.before.at-tag.ensures 3 (omega arith)), sym (c.before.before.at-n.ensures 3 (omega arith)), sym (c.before.at-s.ensures 3 (omega arith)), ne_eqb _ _ c.in_default.in_default-own.rest.1)))

@@ -8,5 +8,5 @@ pub body_numbers_spec : {M : Type 1} → statement M
 body_numbers_spec = tie.close (tie.spec
     (λ c. search rules)
     (λ c. search rules)
-    (λ c. sym c.before.x.given.1)
-    (λ c. sym c.before.x2.given.1))
+    (λ c. sym c.in-Number.is)
+    (λ c. sym c.in-Page.is))

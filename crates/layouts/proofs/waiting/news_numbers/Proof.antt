@@ -19,5 +19,5 @@ news_numbers_spec = tie.close (tie.spec
     (λ c κs. tt)
     (λ c. search rules)
     (λ c. search rules)
-    (λ c. ap₂ Answered c.before.matching-numbers.ensures c.body-numbers.ensures ∙ sym c.before.before.before.x.given.1)
-    (λ c. rw c.site-numbers.ensures (sym c.before.before.x2.given.1)))
+    (λ c. ap₂ Answered c.before.matching_numbers-c.ensures c.body_numbers-d.ensures ∙ sym c.before.before.in-Answered.is)
+    (λ c. rw c.site_numbers-c.ensures (sym c.before.in-Posted.is)))

@@ -14,5 +14,5 @@ reference_at_spec = tie.close (tie.spec
     (λ c κs. tt)
     (λ c κs. tt)
     (λ c κs. tt)
-    (λ c. rw (sym (c.before.before.before.before.before.at.ensures 4 (omega arith)), c.match.keys1) (λ i. Req (record { 0 = c.before.before.before.before.at2.ensures 4 (omega arith) i })))
-    (λ c. rw (sym (c.before.before.before.before.before.at.ensures 4 (omega arith)), ne_eqb _ _ c.match.rest.1) (λ i. Xhr (record { 0 = c.before.before.before.before.at2.ensures 4 (omega arith) i }) ((c.before.matching-of.ensures ∙ ap₂ matching_of (c.before.before.before.at3.ensures 4 (omega arith)) (c.before.before.at4.ensures 4 (omega arith))) i))))
+    (λ c. rw (sym (c.before.before.before.before.before.at-tag.ensures 4 (omega arith)), c.in-0.is) (λ i. Req (record { 0 = c.before.before.before.before.at-n.ensures 4 (omega arith) i })))
+    (λ c. rw (sym (c.before.before.before.before.before.at-tag.ensures 4 (omega arith)), ne_eqb _ _ c.in_default.in_default-own.rest.1) (λ i. Xhr (record { 0 = c.before.before.before.before.at-n.ensures 4 (omega arith) i }) ((c.before.matching_of-x.ensures ∙ ap₂ matching_of (c.before.before.before.at.ensures 4 (omega arith)) (c.before.before.at-2.ensures 4 (omega arith))) i))))

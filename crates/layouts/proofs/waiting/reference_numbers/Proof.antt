@@ -11,5 +11,5 @@ reference_numbers_spec = tie.close (tie.spec
     (λ c κs. tt)
     (λ c. search rules)
     (λ c. search rules)
-    (λ c. sym c.before.x.given.1)
-    (λ c. rw c.matching-numbers.ensures (sym c.before.before.x2.given.1)))
+    (λ c. sym c.in-Req.is)
+    (λ c. rw c.matching_numbers-c.ensures (sym c.before.in-Xhr.is)))
