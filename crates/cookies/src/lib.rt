@@ -22,7 +22,7 @@ use types::rows::HostCookie;
 use types::{Host, Protocol};
 
 // A row, if one was found. Where none was, `row` says nothing.
-#[derive(Drop)]
+#[derive(Clone, Copy)]
 pub struct Found {
     pub found: bool,
     pub row: HostCookie,

@@ -8,7 +8,7 @@ use types::cookies::CookieName;
 use types::rows::HostCookie;
 use types::{Host, Protocol};
 
-#[derive(Drop)]
+#[derive(Clone, Copy)]
 pub enum Which {
     Lasting,
     Guards(Host, CookieName),

@@ -35,7 +35,7 @@ fn digit(s: &[u8], i: usize) -> usize
 }
 
 // A number, and the position behind it.
-#[derive(Drop)]
+#[derive(Clone, Copy)]
 pub struct Natural {
     pub value: usize,
     pub next: usize,
@@ -82,7 +82,7 @@ pub fn decimal(s: &[u8], at: usize, cap: usize) -> Natural
 }
 
 // Where the bytes of an atom stand: from start to end, which is the position behind it.
-#[derive(Drop)]
+#[derive(Clone, Copy)]
 pub struct Part {
     pub start: usize,
     pub end: usize,
@@ -150,7 +150,7 @@ pub fn word(s: &[u8], at: usize, w: &[u8]) -> usize
 }
 
 // A number of at most 32 bits, and the position behind it.
-#[derive(Drop)]
+#[derive(Clone, Copy)]
 pub struct Count {
     pub value: u32,
     pub next: usize,

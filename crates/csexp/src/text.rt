@@ -10,7 +10,7 @@ pub const ITEM_BYTES: usize = 16384;
 pub const ITEM_LEVELS: usize = 16;
 
 // Where a term ends, or that there is none within the limits.
-#[derive(Drop)]
+#[derive(Clone, Copy)]
 pub enum Ending {
     Whole(usize),
     Broken,

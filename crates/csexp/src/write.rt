@@ -11,7 +11,7 @@ const MOST: usize = 18446744073709551615;
 
 // What a writer of a whole text answers: how many bytes it wrote, or that they have no room between the place it was given and the
 // end, and then it wrote none (specs/Sent).
-#[derive(Drop)]
+#[derive(Clone, Copy)]
 pub enum Written {
     Bytes(usize),
     NoRoom,

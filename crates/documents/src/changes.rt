@@ -9,7 +9,7 @@ use types::rows::Document;
 use types::{DocumentNumber, WindowNumber};
 
 // What is set, and in which document: active or not, of a window's history the one at a place; its script's state, its script.
-#[derive(Drop)]
+#[derive(Clone, Copy)]
 pub enum Change {
     SetActive(WindowNumber, u32, bool),
     SetState(DocumentNumber, ScriptState),

@@ -24,7 +24,7 @@ use types::rows::Document;
 use types::{DocumentNumber, DocumentNumbers, Label, WindowNumber};
 
 // A row, if one was found. Where none was, `row` says nothing.
-#[derive(Drop)]
+#[derive(Clone, Copy)]
 pub struct Found {
     pub found: bool,
     pub row: Document,

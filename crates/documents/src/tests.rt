@@ -9,7 +9,7 @@ ghost use Rattle.documents.specs.Which.{passes, spares};
 use types::rows::Document;
 use types::{DocumentNumber, DocumentNumbers, Label, WindowNumber};
 
-#[derive(Drop)]
+#[derive(Clone, Copy)]
 pub enum Which {
     InWindow(WindowNumber),
     NumberIs(DocumentNumber),

@@ -20,7 +20,7 @@ use types::rows::{Document, Parent};
 use walks::{STEPS, origin_of};
 
 // Whether it is shown or why not, and how many bytes of the buffer were written.
-#[derive(Drop)]
+#[derive(Clone, Copy)]
 pub struct Showing {
     pub verdict: Verdict,
     pub count: usize,

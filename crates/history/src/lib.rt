@@ -15,7 +15,7 @@ use types::refusals::Missing;
 use types::rows::Document;
 
 // What isn't there, or the top-level window from which the window is reached and the active document in it.
-#[derive(Drop)]
+#[derive(Clone, Copy)]
 pub enum Display {
     Lacks(Missing),
     Shows(WindowNumber, Document),
@@ -39,14 +39,14 @@ pub fn displayed(m: &Memory, w: WindowNumber) -> Display
 }
 
 // NAVBACK goes to the document before, NAVFORWARD to the document after.
-#[derive(Drop)]
+#[derive(Clone, Copy)]
 pub enum Towards {
     Before,
     After,
 }
 
 // From the place of the active document to that of the document beside it, if there is one. Where there is none, the places say nothing.
-#[derive(Drop)]
+#[derive(Clone, Copy)]
 pub struct Way {
     pub found: bool,
     pub from: u32,

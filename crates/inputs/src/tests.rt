@@ -9,7 +9,7 @@ ghost use Rattle.inputs.specs.Which.{passes, spares};
 use types::rows::Input;
 use types::{DocumentNumber, DocumentNumbers, Label};
 
-#[derive(Drop)]
+#[derive(Clone, Copy)]
 pub enum Which {
     OfDocument(DocumentNumber),
     Mentions(Label),

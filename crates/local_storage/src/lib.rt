@@ -18,7 +18,7 @@ use types::rows::LocalValue;
 use types::{Host, Protocol};
 
 // A row, if one was found. Where none was, `row` says nothing.
-#[derive(Drop)]
+#[derive(Clone, Copy)]
 pub struct Found {
     pub found: bool,
     pub row: LocalValue,

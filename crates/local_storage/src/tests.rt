@@ -7,7 +7,7 @@ ghost use Rattle.local_storage.specs.Which.{passes};
 use types::rows::LocalValue;
 use types::{Host, Protocol};
 
-#[derive(Drop)]
+#[derive(Clone, Copy)]
 pub enum Which {
     KeyIs(Host, Protocol),
     KeyIsNot(Host, Protocol),

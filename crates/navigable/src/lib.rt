@@ -16,7 +16,7 @@ use walks::STEPS;
 use walks::told::{Above, Top};
 
 // A row of the windows, counted from 0, if there is one.
-#[derive(Drop)]
+#[derive(Clone, Copy)]
 pub enum First {
     Row(usize),
     NoRow,

@@ -21,7 +21,7 @@ use types::rows::Question;
 use types::{DnsNumber, Label};
 
 // A row, if one was found. Where none was, `row` says nothing.
-#[derive(Drop)]
+#[derive(Clone, Copy)]
 pub struct Found {
     pub found: bool,
     pub row: Question,

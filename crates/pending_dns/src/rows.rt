@@ -25,7 +25,7 @@ pub const FIRST: usize = 2631;
 pub const WIDTH: usize = 220;
 
 // What tests look at.
-#[derive(Drop)]
+#[derive(Clone, Copy)]
 pub struct Head {
     pub number: DnsNumber,
     pub reference: Reference,

@@ -10,7 +10,7 @@ ghost use Rattle.pending_dns.specs.Which.{head_passes, head_mentions};
 use super::rows::Head;
 use types::{DnsNumber, Label, Reference};
 
-#[derive(Drop)]
+#[derive(Clone, Copy)]
 pub enum Which {
     KeyIs(DnsNumber),
     KeyIsNot(DnsNumber),

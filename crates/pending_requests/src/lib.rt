@@ -21,7 +21,7 @@ use types::rows::Waiting;
 use types::{Label, RequestNumber};
 
 // A row, if one was found. Where none was, `row` says nothing.
-#[derive(Drop)]
+#[derive(Clone, Copy)]
 pub struct Found {
     pub found: bool,
     pub row: Waiting,

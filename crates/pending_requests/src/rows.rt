@@ -25,7 +25,7 @@ pub const FIRST: usize = 6152;
 pub const WIDTH: usize = 222;
 
 // What tests look at.
-#[derive(Drop)]
+#[derive(Clone, Copy)]
 pub struct Head {
     pub reference: Reference,
     pub request: RequestNumber,

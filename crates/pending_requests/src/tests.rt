@@ -10,7 +10,7 @@ ghost use Rattle.pending_requests.specs.Which.{head_passes, head_mentions};
 use super::rows::Head;
 use types::{KeyNumber, Label, Reference, RequestNumber};
 
-#[derive(Drop)]
+#[derive(Clone, Copy)]
 pub enum Which {
     KeyIsNot(RequestNumber),
     KeylessNumber(RequestNumber),

@@ -8,7 +8,7 @@ use csexp::{Ending, ITEM_BYTES, ITEM_LEVELS, ends_at};
 pub const LINE_BYTES: usize = 4097;
 
 // Why no more of a portion is played.
-#[derive(Drop)]
+#[derive(Clone, Copy)]
 pub enum Halt {
     Over, // nothing is left, and nothing follows
     Stopped, // "After refusal 1 it stops."
@@ -17,7 +17,7 @@ pub enum Halt {
 }
 
 // An item of so many bytes, or none.
-#[derive(Drop)]
+#[derive(Clone, Copy)]
 pub enum Next {
     Item(usize),
     Nothing(Halt),

@@ -7,7 +7,7 @@ use crate::looking::{Halt, Next, next_in};
 use memory::Memory;
 
 // How many bytes were played, how many bytes their lines have, and why no more were played.
-#[derive(Drop)]
+#[derive(Clone, Copy)]
 pub struct Played {
     pub read: usize,
     pub written: usize,

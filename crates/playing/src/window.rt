@@ -9,7 +9,7 @@ use libc::STDOUT_FILENO;
 use memory::Memory;
 
 // How many bytes of the window are held, whether the input has ended, and whether the run has.
-#[derive(Drop)]
+#[derive(Clone, Copy)]
 pub struct Run {
     pub held: usize,
     pub last: bool,

@@ -17,7 +17,7 @@ fn fresh_number(s: &[u8], at: usize, label: &[u8]) -> Count
     Count { value: 0, next: at }
 }
 
-#[derive(Drop)]
+#[derive(Clone, Copy)]
 pub struct FreshAt {
     pub value: Fresh,
     pub next: usize,

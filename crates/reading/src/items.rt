@@ -44,7 +44,7 @@ fn read_event(s: &[u8], at: usize) -> HappeningAt
     }
 }
 
-#[derive(Drop)]
+#[derive(Clone, Copy)]
 pub struct ItemAt {
     pub value: Item,
     pub next: usize,

@@ -11,7 +11,7 @@ use types::refusals::{Refusal, Verdict};
 use types::{DnsNumber, DocumentNumber, Fresh, KeyNumber, RequestNumber, WindowNumber};
 
 // Accepted and an item, or why there is none and a blank item.
-#[derive(Drop)]
+#[derive(Clone, Copy)]
 pub struct Reading {
     pub verdict: Verdict,
     pub item: Item,

@@ -25,7 +25,7 @@ pub fn read_status(s: &[u8], at: usize) -> Short
     }
 }
 
-#[derive(Drop)]
+#[derive(Clone, Copy)]
 pub struct BodyAt {
     pub value: Body,
     pub next: usize,

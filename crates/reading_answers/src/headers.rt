@@ -9,7 +9,7 @@ use reading_parts::{NO_COOKIES, read_cookies, read_url};
 use types::Policy;
 use types::answers::{Headers, Location};
 
-#[derive(Drop)]
+#[derive(Clone, Copy)]
 pub struct HeadersAt {
     pub value: Headers,
     pub next: usize,
@@ -122,7 +122,7 @@ fn strict_header(s: &[u8], at: usize, h: Headers) -> HeadersAt
     }
 }
 
-#[derive(Drop)]
+#[derive(Clone, Copy)]
 struct PolicyAt {
     value: Policy,
     next: usize,

@@ -10,7 +10,7 @@ use types::answers::{Answer, DnsAnswer, Reply, Status};
 use types::items::{Event, Happening};
 use types::{Address, DnsNumber, Host, KeyNumber, RequestNumber};
 
-#[derive(Drop)]
+#[derive(Clone, Copy)]
 pub struct ReplyAt {
     pub value: Reply,
     pub next: usize,
@@ -46,7 +46,7 @@ pub fn read_reply(s: &[u8], at: usize) -> ReplyAt
     }
 }
 
-#[derive(Drop)]
+#[derive(Clone, Copy)]
 pub struct HappeningAt {
     pub value: Happening,
     pub next: usize,

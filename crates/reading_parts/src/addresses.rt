@@ -6,7 +6,7 @@ use crate::numbers::short_number;
 use csexp::{empty_list, mark, number, optional, word};
 use types::{Fragment, Host, Origin, Parameters, Path, Protocol, Url};
 
-#[derive(Drop)]
+#[derive(Clone, Copy)]
 pub struct ProtocolAt {
     pub value: Protocol,
     pub next: usize,
@@ -30,7 +30,7 @@ pub fn read_protocol(s: &[u8], at: usize) -> ProtocolAt
     }
 }
 
-#[derive(Drop)]
+#[derive(Clone, Copy)]
 pub struct FragmentAt {
     pub value: Fragment,
     pub next: usize,
@@ -54,7 +54,7 @@ pub fn read_fragment(s: &[u8], at: usize) -> FragmentAt
     }
 }
 
-#[derive(Drop)]
+#[derive(Clone, Copy)]
 pub struct UrlAt {
     pub value: Url,
     pub next: usize,
@@ -86,7 +86,7 @@ pub fn read_url(s: &[u8], at: usize) -> UrlAt
     }
 }
 
-#[derive(Drop)]
+#[derive(Clone, Copy)]
 pub struct OriginAt {
     pub value: Origin,
     pub next: usize,

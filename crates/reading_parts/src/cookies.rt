@@ -9,7 +9,7 @@ use crate::numbers::{Short, short_number};
 use csexp::{LOST, mark, number, word};
 use types::cookies::{Cookie, CookieName, CookieValue, SetCookies};
 
-#[derive(Drop)]
+#[derive(Clone, Copy)]
 pub struct FlagAt {
     pub value: bool,
     pub next: usize,
@@ -47,7 +47,7 @@ fn host_number(s: &[u8], at: usize) -> Short
     }
 }
 
-#[derive(Drop)]
+#[derive(Clone, Copy)]
 pub struct NameAt {
     pub value: CookieName,
     pub next: usize,
@@ -78,7 +78,7 @@ pub fn read_name(s: &[u8], at: usize) -> NameAt
     }
 }
 
-#[derive(Drop)]
+#[derive(Clone, Copy)]
 pub struct CookieAt {
     pub value: Cookie,
     pub next: usize,
@@ -122,7 +122,7 @@ pub fn read_cookie(s: &[u8], at: usize) -> CookieAt
     }
 }
 
-#[derive(Drop)]
+#[derive(Clone, Copy)]
 pub struct CookiesAt {
     pub value: SetCookies,
     pub next: usize,

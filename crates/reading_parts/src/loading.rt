@@ -9,7 +9,7 @@ use types::Data;
 use types::commands::Command;
 use words::read_method;
 
-#[derive(Drop)]
+#[derive(Clone, Copy)]
 pub struct CommandAt {
     pub value: Command,
     pub next: usize,

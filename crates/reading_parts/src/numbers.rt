@@ -6,7 +6,7 @@ ghost use Rattle.shapes.specs.Items.{window_of};
 use csexp::{LOST, labelled, number};
 use types::WindowNumber;
 
-#[derive(Drop)]
+#[derive(Clone, Copy)]
 pub struct Short {
     pub value: u16,
     pub next: usize,
@@ -30,7 +30,7 @@ pub fn short_number(s: &[u8], at: usize, lo: u16, hi: u16) -> Short
     }
 }
 
-#[derive(Drop)]
+#[derive(Clone, Copy)]
 pub struct WindowAt {
     pub value: WindowNumber,
     pub next: usize,

@@ -7,7 +7,7 @@ use csexp::{empty_list, number, word};
 use types::Matching;
 use types::commands::{Addressee, Holder, Target};
 
-#[derive(Drop)]
+#[derive(Clone, Copy)]
 pub struct TargetAt {
     pub value: Target,
     pub next: usize,
@@ -32,7 +32,7 @@ pub fn read_target(s: &[u8], at: usize) -> TargetAt
     }
 }
 
-#[derive(Drop)]
+#[derive(Clone, Copy)]
 pub struct HolderAt {
     pub value: Holder,
     pub next: usize,
@@ -64,7 +64,7 @@ pub fn read_holder(s: &[u8], at: usize) -> HolderAt
     }
 }
 
-#[derive(Drop)]
+#[derive(Clone, Copy)]
 pub struct MatchingAt {
     pub value: Matching,
     pub next: usize,
@@ -88,7 +88,7 @@ pub fn read_matching(s: &[u8], at: usize) -> MatchingAt
     }
 }
 
-#[derive(Drop)]
+#[derive(Clone, Copy)]
 pub struct AddresseeAt {
     pub value: Addressee,
     pub next: usize,

@@ -7,7 +7,7 @@ use types::refusals::{Refusal, Verdict};
 use writing::write_event;
 
 // How many bytes of the buffer were written; a refusal writes none.
-#[derive(Drop)]
+#[derive(Clone, Copy)]
 pub struct Rehearsed {
     pub verdict: Verdict,
     pub count: usize,

@@ -1,7 +1,7 @@
 // What goes when documents go.
 use types::{DocumentNumbers, WindowNumbers};
 
-#[derive(Drop)]
+#[derive(Clone, Copy)]
 pub struct Removal {
     pub windows: WindowNumbers,
     pub documents: DocumentNumbers,

@@ -19,7 +19,7 @@ use words::statuses::{StatusKind, status_kind};
 
 // To the address that it names; into a window, with the place of the active document there, the new one's own, and its script and state;
 // to the document whose script asked, as an input; or nowhere.
-#[derive(Drop)]
+#[derive(Clone, Copy)]
 pub enum Course {
     Followed(Url),
     Loaded(WindowNumber, u32, u32, Script, ScriptState),
@@ -28,7 +28,7 @@ pub enum Course {
 }
 
 // With the windows and documents that go. They stand beside, since an enum holds no array.
-#[derive(Drop)]
+#[derive(Clone, Copy)]
 pub struct Plan {
     pub course: Course,
     pub gone: Removal,

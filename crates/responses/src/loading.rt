@@ -21,7 +21,7 @@ use types::rows::{Document, Waiting};
 use types::{DocumentNumber, DocumentNumbers, WindowNumber};
 
 // What a new document finds in its window: the place of the active one, its own place behind that, and what goes.
-#[derive(Drop)]
+#[derive(Clone, Copy)]
 pub struct Spot {
     pub was: u32,
     pub place: u32,

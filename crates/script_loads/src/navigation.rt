@@ -15,7 +15,7 @@ use types::rows::{Document, Opener, Parent, Window};
 use types::{Cancelled, Data, Fresh, Method, Reference, Sending, Url, Wants, WindowNumber};
 
 // What is loaded: by a link, with its address and whether it is noreferrer; by a form, with its address, method and data.
-#[derive(Drop)]
+#[derive(Clone, Copy)]
 pub enum Load {
     Link(Url, bool),
     Form(Url, Method, Data),

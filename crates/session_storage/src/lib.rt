@@ -20,7 +20,7 @@ use types::rows::SessionValue;
 use types::{Host, Label, Protocol, WindowNumber};
 
 // A row, if one was found. Where none was, `row` says nothing.
-#[derive(Drop)]
+#[derive(Clone, Copy)]
 pub struct Found {
     pub found: bool,
     pub row: SessionValue,

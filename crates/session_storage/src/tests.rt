@@ -9,7 +9,7 @@ ghost use Rattle.session_storage.specs.Which.{passes};
 use types::rows::SessionValue;
 use types::{Host, Label, Protocol, WindowNumber};
 
-#[derive(Drop)]
+#[derive(Clone, Copy)]
 pub enum Which {
     KeyIs(Host, Protocol, WindowNumber),
     KeyIsNot(Host, Protocol, WindowNumber),

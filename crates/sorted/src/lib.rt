@@ -8,7 +8,7 @@ pub use logic::{bit, both, either, not};
 pub use place::used;
 
 // How the key of one row stands to that of another.
-#[derive(Drop)]
+#[derive(Clone, Copy)]
 pub enum Order {
     Before,
     Same,
@@ -16,7 +16,7 @@ pub enum Order {
 }
 
 // Where a row goes: the place of the first that does not stand before it, whether that one has its key, and how many rows count.
-#[derive(Drop)]
+#[derive(Clone, Copy)]
 pub struct At {
     pub place: usize,
     pub hit: bool,

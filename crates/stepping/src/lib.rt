@@ -7,7 +7,7 @@ ghost use Rattle.stepping.specs.Wanted.{Unwanted};
 use types::refusals::{Refusal, Verdict};
 use types::{Fresh, Request, Sent};
 
-#[derive(Drop)]
+#[derive(Clone, Copy)]
 pub struct Performed {
     pub verdict: Verdict,
     pub sent: Sent,

@@ -14,7 +14,7 @@ use types::items::Output;
 use types::rows::Document;
 
 // The window that a script runs in, its active document, the top-level window above; the cookies that CookieMerge leaves, and the script's output.
-#[derive(Drop)]
+#[derive(Clone, Copy)]
 pub struct Scene {
     pub window: WindowNumber,
     pub document: Document,

@@ -18,7 +18,7 @@ use types::Host;
 use types::rows::StrictHost;
 
 // A row, if one was found. Where none was, `row` says nothing.
-#[derive(Drop)]
+#[derive(Clone, Copy)]
 pub struct Found {
     pub found: bool,
     pub row: StrictHost,

@@ -7,7 +7,7 @@ ghost use Rattle.sts.specs.Which.{passes};
 use types::Host;
 use types::rows::StrictHost;
 
-#[derive(Drop)]
+#[derive(Clone, Copy)]
 pub enum Which {
     KeyIs(Host),
     KeyIsNot(Host),

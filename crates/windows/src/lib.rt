@@ -20,7 +20,7 @@ use types::rows::Window;
 use types::{Label, WindowNumber, WindowNumbers};
 
 // A row, if one was found. Where none was, `row` says nothing.
-#[derive(Drop)]
+#[derive(Clone, Copy)]
 pub struct Found {
     pub found: bool,
     pub row: Window,

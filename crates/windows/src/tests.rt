@@ -9,7 +9,7 @@ ghost use Rattle.windows.specs.Which.{passes, spares};
 use types::rows::Window;
 use types::{Label, WindowNumber, WindowNumbers};
 
-#[derive(Drop)]
+#[derive(Clone, Copy)]
 pub enum Which {
     KeyIs(WindowNumber),
     Mentions(Label),

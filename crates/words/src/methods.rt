@@ -26,7 +26,7 @@ fn method_at(i: usize) -> Method
     }
 }
 
-#[derive(Drop)]
+#[derive(Clone, Copy)]
 pub struct MethodAt {
     pub value: Method,
     pub next: usize,

@@ -6,7 +6,7 @@ ghost use Rattle.words.specs.Spelt.{Spelt};
 use types::Method;
 
 // The first `length` bytes; those behind them are 0.
-#[derive(Drop)]
+#[derive(Clone, Copy)]
 pub struct Spelling {
     pub bytes: [u8; 7],
     pub length: usize,

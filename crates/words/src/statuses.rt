@@ -2,7 +2,7 @@
 ghost use Rattle.std.specs.Prelude.{◌≡◌};
 ghost use Rattle.words.specs.Status.{status_kind};
 
-#[derive(Drop)]
+#[derive(Clone, Copy)]
 pub enum StatusKind {
     Redirects,
     Other,
