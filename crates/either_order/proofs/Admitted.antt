@@ -40,6 +40,7 @@ all_absent b (x ∷ f) h = and_both (is_fresh b x) (all_fresh b f) (absent_fresh
 
 -- no host is brought
 given_in : (ls : List Label) (l : Label) → In l (given ls) → In l ls
+given_in [] l i = elim i [ ]
 given_in (x ∷ ls) l i = go (eqb x.1 0) i (given_in ls l)
   where
     go : (c : Bool) → In l (cond c (given ls) (x ∷ given ls)) → (In l (given ls) → In l ls) → (l ≡ x) ⊎ In l ls
@@ -55,6 +56,7 @@ no-host-fresh f h i = go (given_in (numbers f) (host, h) i)
     go (inr (inl e)) = let z : ◌≡◌ {A = ℕ} 5 1 = ap (λ (l : Label). code l.0) e in omega arith
     go (inr (inr (inl e))) = let z : ◌≡◌ {A = ℕ} 5 2 = ap (λ (l : Label). code l.0) e in omega arith
     go (inr (inr (inr (inl e)))) = let z : ◌≡◌ {A = ℕ} 5 3 = ap (λ (l : Label). code l.0) e in omega arith
+    go (inr (inr (inr (inr (inr x5))))) = elim x5 [ ]
     go (inr (inr (inr (inr (inl e))))) = let z : ◌≡◌ {A = ℕ} 5 4 = ap (λ (l : Label). code l.0) e in omega arith
 
 -- ROWS.

@@ -131,6 +131,7 @@ module _ (F : Part) where
   keeps_alike (done m) acc b d x y e h = h
 
   pub made_alike : (o : Outcome) (c : Tables) (m : Option Message) (u : Outcome) → o ≡ made c m → Alike F o u → (d : Tables) × (u ≡ made d m) × AlikeIn F c d
+  made_alike (refused r) c m (made _ _) e a = elim a [ ]
   made_alike (refused r) c m (refused s) e a = never (cc)
   made_alike (made x n) c m u e (both-made y d k h) =
       let z : x ≡ c = cc in

@@ -39,6 +39,7 @@ host_in h [] e = never (cc)
 host_in h (g ∷ hs) e = elim (or_one (same_host h g) (host_one_of h hs) e) [ inl p ↦ inl (λ i. record { 0 = eqb-true h.0 g.0 p i }) | inr p ↦ inr (host_in h hs p) ]
 
 pub in_hosts : (h : Host) (hs : List Host) → In h hs → host_one_of h hs ≡ true
+in_hosts h [] x' = elim x' [ ]
 in_hosts h (g ∷ hs) (inl e) = or_left (same_host h g) (host_one_of h hs) (eq-eqb h.0 g.0 (ap (λ (x : Host). x.0) e))
 in_hosts h (g ∷ hs) (inr i) = or_right (same_host h g) (host_one_of h hs) (in_hosts h hs i)
 

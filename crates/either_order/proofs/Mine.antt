@@ -59,16 +59,19 @@ module _ (b : Tables) (N : Numbered b) where
     where
       go : (o : Option Waiting) → observed (keyed k) b ≡ o → In l (waiting_number o) → ours_at b (stands (EncryptedAnswer k a) b) (hosts (EncryptedAnswer k a) b) l ≡ true
       go none f j = absurd j
+      go (some w) f (inr x3) = elim x3 [ ]
       go (some w) f (inl j) = of_waiting (EncryptedAnswer k a) a (observed (keyed k) b) w l f (in_keyed b k w f) j refl refl
   found_mine (PlainAnswer a) l i = go (observed (keyless a.number) b) refl i
     where
       go : (o : Option Waiting) → observed (keyless a.number) b ≡ o → In l (waiting_number o) → ours_at b (stands (PlainAnswer a) b) (hosts (PlainAnswer a) b) l ≡ true
       go none f j = absurd j
+      go (some w) f (inr x3) = elim x3 [ ]
       go (some w) f (inl j) = of_waiting (PlainAnswer a) a (observed (keyless a.number) b) w l f (in_keyless b a.number w f).0 j refl refl
   found_mine (DnsResolved a) l i = go (observed (question a.number) b) refl i
     where
       go : (o : Option Question) → observed (question a.number) b ≡ o → In l (question_number o) → ours_at b (stands (DnsResolved a) b) (hosts (DnsResolved a) b) l ≡ true
       go none f j = absurd j
+      go (some q) f (inr x3) = elim x3 [ ]
       go (some q) f (inl j) = of_question (DnsResolved a) (observed (question a.number) b) q l f (in_questions b a.number q f) j refl refl
 
   -- the number under which an accepted step seeks an entry

@@ -65,6 +65,7 @@ module _ (b : Tables) (N : Numbered b) (st : Option WindowNumber) (hs : List Hos
       where
         par : (p : Parent) → r.parent ≡ p → In a (parent_label p) → ours_at b st hs a ≡ ours_at b st hs (window, r.number.0)
         par Top e k = absurd k
+        par (Under n) e (mathlib.Core.Logic.inr x4) = elim x4 [ ]
         par (Under n) e (inl k) = by_colour a (document, n.0) k (window, r.number.0) (colour_child b N few r n i e)
     tied documents d i a (inl k) = by_colour a (document, d.number.0) k (window, d.window.0) (colour_document b N d i)
     tied cookies r i a j = absurd j

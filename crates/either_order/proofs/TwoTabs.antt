@@ -62,6 +62,7 @@ meet [] ns = false
 meet (m ∷ ms) ns = among m ns || meet ms ns
 
 never_both : (ms ns : List Label) → meet ms ns ≡ false → (l : Label) → In l ms → In l ns → ⊥
+never_both [] ns e l x3 j = elim x3 [ ]
 never_both (m ∷ ms) ns e l (inl p) j = not-both (in_among m ns (subst (λ (v : Label). In v ns) p j)) (or_neither (among m ns) (meet ms ns) e).0
 never_both (m ∷ ms) ns e l (inr i) j = never_both ms ns (or_neither (among m ns) (meet ms ns) e).1 l i j
 

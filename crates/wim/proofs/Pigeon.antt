@@ -9,6 +9,7 @@ use Rattle.sorted.specs.Table.{In}
 
 -- one row taken out of a list
 take_out : {A : Type 0} (l : List A) (x : A) → In x l → (l' : List A) × (length l ≡ suc (length l')) × ((y : A) → In y l → (y ≡ x → ⊥) → In y l')
+take_out {A = A} mathlib.Core.List.[] x x3 = elim x3 [ ]
 take_out (z ∷ l) x (inl e) = (l, refl, pass)
   where
     pass : (y : _) → (y ≡ z) ⊎ In y l → (y ≡ x → ⊥) → In y l

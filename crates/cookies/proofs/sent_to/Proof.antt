@@ -11,10 +11,10 @@ use Rattle.layouts.specs.Tables.{host_cookies_in}
 use Rattle.cookies.proofs.sent_to.Statement.{statement}
 use Rattle.cookies.proofs.sent_to.Tie as tie
 
-abbrev invariant-loop : tie.invariant-loop
+abbrev invariant-loop : tie.invariant-loop-i
 invariant-loop m h p n out₀ j₀ i₀ out j i = Picking host_cookies_in (goes_to h p) pair_of blank_pair m n out.rows i j
 
-abbrev decreases-loop : tie.decreases-loop
+abbrev decreases-loop : tie.decreases-loop-i
 decreases-loop m h p n out₀ j₀ i₀ out j i = n - i
 
 pub sent_to_spec : {M : Type 1} → statement M
@@ -22,17 +22,17 @@ unfolding jar
 sent_to_spec = tie.close (tie.spec invariant-loop decreases-loop
     (λ c κs. tt)
     (λ c κs. tt)
-    (λ c. pick_start (search mapped) (ap (λ (j : Jar). j.rows) c.empty-jar.ensures) c.before.size.ensures)
+    (λ c. pick_start (search mapped) (ap (λ (j : Jar). j.rows) c.empty_jar-out.ensures) c.before.size-n.ensures)
     (λ c κs. tt)
     (λ c κs. tt)
     (λ c κs. tt)
-    (λ c. omega (arith, pick_below c.before.before.before.before.before.loop.invariant))
-    (λ c. omega (arith, pick_below c.before.before.before.before.before.loop.invariant))
-    (λ c. omega (arith, pick_below c.before.before.before.before.before.loop.invariant))
+    (λ c. omega (arith, pick_below c.before.before.before.before.before.loop-i.invariant))
+    (λ c. omega (arith, pick_below c.before.before.before.before.before.loop-i.invariant))
+    (λ c. omega (arith, pick_below c.before.before.before.before.before.loop-i.invariant))
     (λ c. omega arith)
     (λ c. omega arith)
-    (λ c. rw c.pair_of.ensures (pick_takes c.before.before.before.before.before.loop.invariant c.before.before.before.row.ensures (omega arith) (sym c.before.before.Goes-to.ensures ∙ c.before.if1.true)))
+    (λ c. rw c.pair_of-v.ensures (pick_takes c.before.before.before.before.before.loop-i.invariant c.before.before.before.row-seen.ensures (omega arith) (sym c.before.before.goes_to.ensures ∙ c.before.if-goes_to.true)))
     (λ c. omega arith)
     (λ c. omega arith)
-    (λ c. pick_skips c.before.before.before.before.loop.invariant c.before.before.row.ensures (omega arith) (sym c.before.Goes-to.ensures ∙ c.if1.false))
-    (λ c. let h = pick_end c.before.loop.invariant (omega arith) in λ i. record { rows = h.0 i; count = h.1 i }))
+    (λ c. pick_skips c.before.before.before.before.loop-i.invariant c.before.before.row-seen.ensures (omega arith) (sym c.before.goes_to.ensures ∙ c.if-goes_to.false))
+    (λ c. let h = pick_end c.before.loop-i.invariant (omega arith) in λ i. record { rows = h.0 i; count = h.1 i }))

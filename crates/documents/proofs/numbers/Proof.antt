@@ -9,26 +9,26 @@ use Rattle.layouts.specs.Tables.{documents_in}
 use Rattle.documents.proofs.numbers.Statement.{statement}
 use Rattle.documents.proofs.numbers.Tie as tie
 
-abbrev invariant-loop : tie.invariant-loop
+abbrev invariant-loop : tie.invariant-loop-i
 invariant-loop m q n out₀ j₀ i₀ out j i = Gathering documents_in (passes q) number_of m n out.rows i j
 
-abbrev decreases-loop : tie.decreases-loop
+abbrev decreases-loop : tie.decreases-loop-i
 decreases-loop m q n out₀ j₀ i₀ out j i = n - i
 
 pub numbers_spec : {M : Type 1} → statement M
 numbers_spec = tie.close (tie.spec invariant-loop decreases-loop
     (λ c κs. tt)
     (λ c κs. tt)
-    (λ c. gather_start (search mapped) c.before.size.ensures)
+    (λ c. gather_start (search mapped) c.before.size-n.ensures)
     (λ c κs. tt)
     (λ c κs. tt)
-    (λ c. omega (arith, gather_below c.before.before.before.before.before.loop.invariant))
-    (λ c. omega (arith, gather_below c.before.before.before.before.before.loop.invariant))
-    (λ c. omega (arith, gather_below c.before.before.before.before.before.loop.invariant))
+    (λ c. omega (arith, gather_below c.before.before.before.before.before.loop-i.invariant))
+    (λ c. omega (arith, gather_below c.before.before.before.before.before.loop-i.invariant))
+    (λ c. omega (arith, gather_below c.before.before.before.before.before.loop-i.invariant))
     (λ c. omega arith)
     (λ c. omega arith)
-    (λ c. gather_takes c.before.before.before.before.before.loop.invariant c.before.before.before.row.ensures (omega arith) (sym c.before.before.test.ensures ∙ c.before.if1.true))
+    (λ c. gather_takes c.before.before.before.before.before.loop-i.invariant c.before.before.before.row-seen.ensures (omega arith) (sym c.before.before.test.ensures ∙ c.before.if-test.true))
     (λ c. omega arith)
     (λ c. omega arith)
-    (λ c. gather_skips c.before.before.before.before.loop.invariant c.before.before.row.ensures (omega arith) (sym c.before.test.ensures ∙ c.if1.false))
-    (λ c. gather_end c.before.loop.invariant (omega arith)))
+    (λ c. gather_skips c.before.before.before.before.loop-i.invariant c.before.before.row-seen.ensures (omega arith) (sym c.before.test.ensures ∙ c.if-test.false))
+    (λ c. gather_end c.before.loop-i.invariant (omega arith)))

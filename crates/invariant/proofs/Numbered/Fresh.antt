@@ -24,6 +24,7 @@ pub record Absent (l : Label) (b : Tables) : Type 0 where
   pub nowhere : (t : Table) (r : Row t) → In r (b t) → In l (mentions t r) → ⊥
 
 pub in_among : (l : Label) (ms : List Label) → In l ms → among l ms ≡ true
+in_among l mathlib.Core.List.[] x' = elim x' [ ]
 in_among l (m ∷ ms) (inl e) = or_left (same_label l m) (among l ms) same
   where
     same : same_label l m ≡ true
@@ -32,6 +33,7 @@ in_among l (m ∷ ms) (inr i) = or_right (same_label l m) (among l ms) (in_among
 
 pub clean_absent : (t : Table) (l : Label) (rs : List (Row t)) → clean t l rs ≡ true → (r : Row t) → In r rs → In l (mentions t r) → ⊥
 unfolding clean
+clean_absent t l mathlib.Core.List.[] e r x3 i = elim x3 [ ]
 clean_absent t l (x ∷ rs) e r (inl p) i =
     let z = and_split (not (among l (mentions t x))) (clean t l rs) e in
     let w : among l (mentions t x) ≡ true = in_among l (mentions t x) (subst (λ (y : Row t). In l (mentions t y)) p i) in
@@ -41,6 +43,7 @@ clean_absent t l (x ∷ rs) e r (inr j) i = clean_absent t l rs (and_split (not 
 
 pub fresh_absent : (b : Tables) (f : List Label) → all_fresh b f ≡ true → (l : Label) → In l f → Absent l b
 unfolding all_fresh is_fresh
+fresh_absent b mathlib.Core.List.[] e l x'' = elim x'' [ ]
 fresh_absent b (m ∷ f) e l (inl p) =
     let z = and_split (is_fresh b m) (all_fresh b f) e in
     subst (λ (x : Label). Absent x b) (sym p) (record { nowhere = λ t. clean_absent t m (b t) (every_one (λ u. clean u m (b u)) z.0 t) })

@@ -53,6 +53,7 @@ cuts (drop k ∷ es) = cuts es
 cuts (sift p ∷ es) = cuts es
 
 pub cuts_none : {R K : Type 0} (es : List (Edit R K)) → cuts es ≡ true → (r : R) → In (put r) es → ⊥
+cuts_none {R = R} {K = K} [] e r i = elim i [ ]
 cuts_none (put s ∷ es) e r i = never (cc)
 cuts_none (drop k ∷ es) e r (inl p) = never (cc)
 cuts_none (drop k ∷ es) e r (inr i) = cuts_none es e r i

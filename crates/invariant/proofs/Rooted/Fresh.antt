@@ -17,6 +17,7 @@ Fresh b l = is_fresh b l ≡ true
 
 pub all-fresh : (b : Tables) (f : List Label) → all_fresh b f ≡ true → (l : Label) → In l f → Fresh b l
 unfolding all_fresh
+all-fresh b mathlib.Core.List.[] e l x'' = elim x'' [ ]
 all-fresh b (m ∷ f) e l (inl p) = ap (is_fresh b) p ∙ (and_split (is_fresh b m) (all_fresh b f) e).0
 all-fresh b (m ∷ f) e l (inr i) = all-fresh b f (and_split (is_fresh b m) (all_fresh b f) e).1 l i
 

@@ -37,6 +37,7 @@ one_in n (m ∷ ms) e = go (or_one (same_document n m) (one_of n ms) e) (one_in 
     go (inr p) ih = inr (ih p)
 
 pub in_one : (n : DocumentNumber) (ms : List DocumentNumber) → In n ms → one_of n ms ≡ true
+in_one n [] x' = elim x' [ ]
 in_one n (m ∷ ms) (inl e) = or_left (same_document n m) (one_of n ms) (document-same n m e)
 in_one n (m ∷ ms) (inr i) = or_right (same_document n m) (one_of n ms) (in_one n ms i)
 
@@ -49,5 +50,6 @@ window_in v (w ∷ ws) e = go (or_one (same_window v w) (window_one_of v ws) e) 
     go (inr p) ih = inr (ih p)
 
 pub in_window : (v : WindowNumber) (ws : List WindowNumber) → In v ws → window_one_of v ws ≡ true
+in_window v [] x' = elim x' [ ]
 in_window v (w ∷ ws) (inl e) = or_left (same_window v w) (window_one_of v ws) (window_same v w e)
 in_window v (w ∷ ws) (inr i) = or_right (same_window v w) (window_one_of v ws) (in_window v ws i)

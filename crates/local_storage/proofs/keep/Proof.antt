@@ -9,17 +9,17 @@ use Rattle.layouts.specs.Tables.{local_in}
 use Rattle.local_storage.proofs.keep.Statement.{statement}
 use Rattle.local_storage.proofs.keep.Tie as tie
 
-abbrev invariant-loop : tie.invariant-loop
+abbrev invariant-loop : tie.invariant-loop-i
 invariant-loop m₀ q n j₀ i₀ m j i = Sifting local_in (passes q) m₀ m n i j
 
-abbrev decreases-loop : tie.decreases-loop
+abbrev decreases-loop : tie.decreases-loop-i
 decreases-loop m₀ q n j₀ i₀ m j i = n - i
 
 pub keep_spec : {M : Type 1} → statement M
 keep_spec = tie.close (tie.spec invariant-loop decreases-loop
     (λ c κs. tt)
     (λ c κs. tt)
-    (λ c. sift-start (omega arith) c.size.ensures)
+    (λ c. sift-start (omega arith) c.size-n.ensures)
     (λ c κs. tt)
     (λ c κs. tt)
     (λ c. omega arith)
@@ -30,14 +30,14 @@ keep_spec = tie.close (tie.spec invariant-loop decreases-loop
     (λ c. omega arith)
     (λ c. omega arith)
     (λ c. omega arith)
-    (λ c. sift-keeps c.before.before.before.before.before.before.before.before.loop.invariant c.before.before.before.before.before.row.ensures (omega arith) (sym c.before.before.before.before.test.ensures ∙ c.before.before.before.if1.true) (c.carry.ensures.fits (omega arith) (omega arith)))
+    (λ c. sift-keeps c.before.before.before.before.before.before.before.loop-i.invariant c.before.before.before.before.before.row-seen.ensures (omega arith) (sym c.before.before.before.before.test.ensures ∙ c.before.before.before.if-test.true) (c.carry.ensures.fits (omega arith) (omega arith)))
     (λ c. omega arith)
     (λ c. omega arith)
     (λ c. omega arith)
-    (λ c. sift-stays c.before.before.before.before.before.before.loop.invariant c.before.before.before.row.ensures (omega arith) (sym c.before.before.test.ensures ∙ c.before.if1.true) (omega arith))
+    (λ c. sift-stays c.before.before.before.before.before.loop-i.invariant c.before.before.before.row-seen.ensures (omega arith) (sym c.before.before.test.ensures ∙ c.before.if-test.true) (omega arith))
     (λ c. omega arith)
     (λ c. omega arith)
-    (λ c. sift_drops c.before.before.before.before.before.loop.invariant c.before.before.row.ensures (omega arith) (sym c.before.test.ensures ∙ c.if1.false))
+    (λ c. sift_drops c.before.before.before.before.loop-i.invariant c.before.before.row-seen.ensures (omega arith) (sym c.before.test.ensures ∙ c.if-test.false))
     (λ c. omega arith)
     (λ c. omega arith)
-    (λ c. sift-end c.before.loop.invariant (omega arith)))
+    (λ c. sift-end c.before.before.loop-i.invariant (omega arith)))

@@ -10,22 +10,22 @@ use Rattle.pending_requests.proofs.Coded.{head_at}
 use Rattle.pending_requests.proofs.first.Statement.{statement}
 use Rattle.pending_requests.proofs.first.Tie as tie
 
-abbrev invariant-loop : tie.invariant-loop
+abbrev invariant-loop : tie.invariant-loop-i
 invariant-loop m q n i₀ i = Looking requests_in (passes q) m n i
 
-abbrev decreases-loop : tie.decreases-loop
+abbrev decreases-loop : tie.decreases-loop-i
 decreases-loop m q n i₀ i = n - i
 
 pub first_spec : {M : Type 1} → statement M
 first_spec = tie.close (tie.spec invariant-loop decreases-loop
     (λ c κs. tt)
-    (λ c. look_start c.size.ensures)
+    (λ c. look_start c.size-n.ensures)
     (λ c κs. tt)
     (λ c κs. tt)
     (λ c κs. tt)
-    (λ c. glance_hit c.before.before.before.head_at.ensures (head_passes c.before.before.before.before.before.before.before.args.q) c.before.before.before.before.before.loop.invariant c.row.ensures (omega arith) (sym c.before.before.test.ensures ∙ c.before.if1.true))
+    (λ c. glance_hit c.before.before.before.head_at-h.ensures (head_passes c.args.q) c.before.before.before.before.before.loop-i.invariant c.row-found.ensures (omega arith) (sym c.before.before.test.ensures ∙ c.before.if-test.true))
     (λ c. omega arith)
     (λ c. omega arith)
-    (λ c. glance_next c.before.before.head_at.ensures (head_passes c.before.before.before.before.before.before.args.q) c.before.before.before.before.loop.invariant (omega arith) (sym c.before.test.ensures ∙ c.if1.false))
+    (λ c. glance_next c.before.before.head_at-h.ensures (head_passes c.args.q) c.before.before.before.before.loop-i.invariant (omega arith) (sym c.before.test.ensures ∙ c.if-test.false))
     (λ c κs. tt)
-    (λ c. look_end c.before.before.loop.invariant (omega arith)))
+    (λ c. look_end c.before.before.loop-i.invariant (omega arith)))

@@ -6,4 +6,4 @@ use Rattle.session_storage.proofs.clear.Statement.{statement}
 use Rattle.session_storage.proofs.clear.Tie as tie
 
 pub clear_spec : {M : Type 1} → statement M
-clear_spec = tie.close (tie.spec (λ c κs. tt) (λ c. omega arith) (λ c. cleared session_in _ (omega (arith, c.whole.ensures))))
+clear_spec = tie.close (tie.spec (λ c κs. tt) (λ c. omega arith) (λ c. cleared session_in _ (omega (arith, c.before.whole.ensures))))

@@ -9,22 +9,22 @@ use Rattle.layouts.specs.Tables.{sts_in}
 use Rattle.sts.proofs.seek.Statement.{statement}
 use Rattle.sts.proofs.seek.Tie as tie
 
-abbrev invariant-loop : tie.invariant-loop
+abbrev invariant-loop : tie.invariant-loop-i
 invariant-loop m host n i₀ i = Searching sts_in (key_stands host) m n i
 
-abbrev decreases-loop : tie.decreases-loop
+abbrev decreases-loop : tie.decreases-loop-i
 decreases-loop m host n i₀ i = n - i
 
 pub seek_spec : {M : Type 1} → statement M
 seek_spec = tie.close (tie.spec invariant-loop decreases-loop
     (λ c κs. tt)
-    (λ c. search_start c.size.ensures)
+    (λ c. search_start c.size-n.ensures)
     (λ c κs. tt)
     (λ c κs. tt)
     (λ c κs. tt)
     (λ c. omega arith)
     (λ c. omega arith)
-    (λ c. search_next c.before.before.before.before.before.loop.invariant c.before.before.before.row.ensures (omega arith) (ap after (sym c.before.before.stands.ensures) ∙ sym c.before.after.ensures ∙ c.if1.true))
+    (λ c. search_next c.before.before.before.before.before.loop-i.invariant c.before.before.before.row.ensures (omega arith) (ap after (sym c.before.before.stands-o.ensures) ∙ sym c.before.after.ensures ∙ c.if-after.true))
     (λ c κs. tt)
-    (λ c. rw (c.same.ensures, c.before.before.before.stands.ensures) (search_hit c.before.before.before.before.before.before.loop.invariant c.before.before.before.before.row.ensures (omega arith) (ap after (sym c.before.before.before.stands.ensures) ∙ sym c.before.before.after.ensures ∙ c.before.if1.false)))
-    (λ c. search_end c.before.loop.invariant (omega arith)))
+    (λ c. rw (c.same.ensures, c.before.before.before.stands-o.ensures) (search_hit c.before.before.before.before.before.before.loop-i.invariant c.before.before.before.before.row.ensures (omega arith) (ap after (sym c.before.before.before.stands-o.ensures) ∙ sym c.before.before.after.ensures ∙ c.before.if-after.false)))
+    (λ c. search_end c.before.loop-i.invariant (omega arith)))

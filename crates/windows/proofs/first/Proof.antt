@@ -8,21 +8,21 @@ use Rattle.layouts.specs.Tables.{windows_in}
 use Rattle.windows.proofs.first.Statement.{statement}
 use Rattle.windows.proofs.first.Tie as tie
 
-abbrev invariant-loop : tie.invariant-loop
+abbrev invariant-loop : tie.invariant-loop-i
 invariant-loop m q n i₀ i = Looking windows_in (passes q) m n i
 
-abbrev decreases-loop : tie.decreases-loop
+abbrev decreases-loop : tie.decreases-loop-i
 decreases-loop m q n i₀ i = n - i
 
 pub first_spec : {M : Type 1} → statement M
 first_spec = tie.close (tie.spec invariant-loop decreases-loop
     (λ c κs. tt)
-    (λ c. look_start c.size.ensures)
+    (λ c. look_start c.size-n.ensures)
     (λ c κs. tt)
     (λ c κs. tt)
-    (λ c. look_hit c.before.before.before.before.loop.invariant c.before.before.row.ensures (omega arith) (sym c.before.test.ensures ∙ c.if1.true))
+    (λ c. look_hit c.before.before.before.before.loop-i.invariant c.before.before.row-found.ensures (omega arith) (sym c.before.test.ensures ∙ c.if-test.true))
     (λ c. omega arith)
     (λ c. omega arith)
-    (λ c. look_next c.before.before.before.before.loop.invariant c.before.before.row.ensures (omega arith) (sym c.before.test.ensures ∙ c.if1.false))
+    (λ c. look_next c.before.before.before.before.loop-i.invariant c.before.before.row-found.ensures (omega arith) (sym c.before.test.ensures ∙ c.if-test.false))
     (λ c κs. tt)
-    (λ c. look_end c.before.before.loop.invariant (omega arith)))
+    (λ c. look_end c.before.before.loop-i.invariant (omega arith)))

@@ -6,15 +6,15 @@ pub numbers_of_spec : {M : Type 1} → statement M
 numbers_of_spec = tie.close (tie.spec
     (λ c κs. tt) (λ c κs. tt) (λ c κs. tt) (λ c κs. tt) (λ c κs. tt) (λ c κs. tt)
     (λ c. λ i. record {
-      host = record { 0 = c.before.before.before.before.before.before.before.low.ensures i };
+      host = record { 0 = c.before.before.before.before.before.before.before.low-n_host.ensures i };
       cookie = record {
         name = record {
-          prefixed = c.before.before.before.before.flag.ensures i;
-          number = c.before.before.before.low2.ensures i;
+          prefixed = c.before.before.before.before.flag-n_cookie_name_prefixed.ensures i;
+          number = c.before.before.before.low-n_cookie_name_number.ensures i;
         };
-        value = c.before.before.before.before.before.before.before.before.args.row.cookie.value;
-        secure = c.before.before.flag2.ensures i;
-        session = c.before.flag3.ensures i;
-        httponly = c.flag4.ensures i;
+        value = c.args.row.cookie.value;
+        secure = c.before.before.flag-n_cookie_secure.ensures i;
+        session = c.before.flag-n_cookie_session.ensures i;
+        httponly = c.flag-n_cookie_httponly.ensures i;
       };
     }))

@@ -5,5 +5,5 @@ use Rattle.cookies.proofs.tests.test.Tie as tie
 
 pub test_spec : {M : Type 1} → statement M
 test_spec = tie.close (tie.spec (λ c. search rules) (λ c κs. tt) (λ c. search rules) (λ c κs. tt)
-    (λ c. rw c.before.enum_told.given.1 c.lasts.ensures)
-    (λ c. rw c.before.before.q.given.1 c.guards.ensures))
+    (λ c. rw c.before.in-Lasting.is c.lasts.ensures)
+    (λ c. rw c.before.in-Guards.is c.guards.ensures))

@@ -5,6 +5,6 @@ use Rattle.documents.proofs.changes.changed.Tie as tie
 
 pub changed_spec : {M : Type 1} → statement M
 changed_spec = tie.close (tie.spec (λ c. search rules) (λ c κs. tt) (λ c. search rules) (λ c κs. tt) (λ c. search rules) (λ c κs. tt)
-    (λ c. rw c.before.before.q.given.1 c.set-active.ensures)
-    (λ c. rw c.before.before.q2.given.1 c.set-state.ensures)
-    (λ c. rw c.before.before.q3.given.1 c.set-script.ensures))
+    (λ c. rw c.before.in-SetActive.is c.set_active.ensures)
+    (λ c. rw c.before.in-SetState.is c.set_state.ensures)
+    (λ c. rw c.before.in-SetScript.is c.set_script.ensures))

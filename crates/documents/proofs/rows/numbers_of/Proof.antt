@@ -9,13 +9,13 @@ pub numbers_of_spec : {M : Type 1} → statement M
 numbers_of_spec = tie.close (tie.spec
     (λ c κs. tt) (λ c κs. tt) (λ c κs. tt) (λ c κs. tt) (λ c. search rules) (λ c. search rules) (λ c. search rules) (λ c. search rules) (λ c. search rules) (λ c. search rules) (λ c. search rules) (λ c. search rules) (λ c. search rules) (λ c. search rules) (λ c. search rules) (λ c. search rules) (λ c. search rules)
     (λ c. λ i. record {
-      window = c.before.before.before.before.before.args.row.window;
-      place = c.before.before.before.before.before.args.row.place;
-      number = c.before.before.before.before.before.args.row.number;
-      location = c.before.before.before.url-numbers.ensures i;
-      policy = c.before.before.policy-tag.ensures i;
-      referrer = (referrer_flat c.before.referrer-numbers.result ∙ c.before.referrer-numbers.ensures) i;
-      script = c.before.before.before.before.before.args.row.script;
-      state = c.before.before.before.before.before.args.row.state;
-      active = c.flag.ensures i;
+      window = c.args.row.window;
+      place = c.args.row.place;
+      number = c.args.row.number;
+      location = c.before.before.before.url_numbers-n_location.ensures i;
+      policy = c.before.before.policy_tag-n_policy.ensures i;
+      referrer = (referrer_flat c.before.referrer_numbers-n_referrer.result ∙ c.before.referrer_numbers-n_referrer.ensures) i;
+      script = c.args.row.script;
+      state = c.args.row.state;
+      active = c.flag-n_active.ensures i;
     }))

@@ -9,7 +9,7 @@ pub numbers_of_spec : {M : Type 1} → statement M
 numbers_of_spec = tie.close (tie.spec
     (λ c κs. tt) (λ c. search rules) (λ c. search rules) (λ c. search rules) (λ c. search rules) (λ c. search rules) (λ c. search rules)
     (λ c. λ i. record {
-      document = c.before.args.row.document;
-      arrival = c.before.args.row.arrival;
-      news = (news_flat c.news-numbers.result ∙ c.news-numbers.ensures) i;
+      document = c.args.row.document;
+      arrival = c.args.row.arrival;
+      news = (news_flat c.news_numbers-n_news.result ∙ c.news_numbers-n_news.ensures) i;
     }))

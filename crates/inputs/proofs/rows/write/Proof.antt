@@ -16,5 +16,5 @@ write_spec = tie.close (tie.spec
     (λ c. omega arith)
     (λ c. search rules)
     (λ c κs. tt)
-    (λ c. λ h. let l : length c.before.before.before.Numbers-of.result ≡ 8 = search rules in written_once inputs_in c.before.before.before.before.before.before.before.args.i c.before.before.before.Numbers-of.result _ (omega (arith, c.before.before.before.before.before.whole.ensures)) h l c.before.before.before.Numbers-of.ensures (c.store.ensures.fits (omega arith)))
+    (λ c. λ h. let l : length c.before.before.before.numbers_of-c.result ≡ 8 = search rules in written_once inputs_in c.args.i c.before.before.before.numbers_of-c.result _ (omega (arith, c.before.before.before.before.before.whole.ensures)) h l c.before.before.before.numbers_of-c.ensures (c.store.ensures.fits (omega arith)))
     (λ c. λ h. absurd (omega (arith, h))))

@@ -5,5 +5,5 @@ use Rattle.inputs.proofs.tests.test.Tie as tie
 
 pub test_spec : {M : Type 1} → statement M
 test_spec = tie.close (tie.spec (λ c. search rules) (λ c κs. tt) (λ c. search rules) (λ c κs. tt)
-    (λ c. rw c.before.before.q.given.1 c.of-document.ensures)
-    (λ c. rw c.before.before.q2.given.1 c.mentioned.ensures))
+    (λ c. rw c.before.in-OfDocument.is c.of_document.ensures)
+    (λ c. rw c.before.in-Mentions.is c.mentioned.ensures))

@@ -5,4 +5,4 @@ use Rattle.pending_dns.proofs.rows.blank.Tie as tie
 
 pub blank_spec : {M : Type 1} → statement M
 unfolding jar
-blank_spec = tie.close (tie.spec (λ c κs. tt) (λ c κs. tt) (λ c. rw (c.before.empty-jar.ensures, c.no-url.ensures)))
+blank_spec = tie.close (tie.spec (λ c κs. tt) (λ c κs. tt) (λ c. rw (c.before.empty_jar-cookies.ensures, c.no_url-url.ensures)))

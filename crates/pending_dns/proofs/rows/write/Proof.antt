@@ -18,6 +18,6 @@ write_spec = tie.close (tie.spec
     (λ c. omega arith)
     (λ c κs. tt)
     (λ c. λ h.
-    let l : length c.before.before.before.before.before.before.before.Numbers-of.result ≡ 27 = search rules in
-    questions_written _ _ _ c.before.before.before.before.before.before.before.before.before.before.before.args.i c.before.before.before.before.before.before.before.Numbers-of.result c.before.before.before.before.before.before.before.before.before.before.before.args.row c.before.before.before.before.before.before.before.before.before.whole.ensures h l c.before.before.before.before.before.before.before.Numbers-of.ensures (c.before.before.store.ensures.fits (omega arith)) c.write.ensures)
+    let l : length c.before.before.before.before.before.before.before.numbers_of-c.result ≡ 27 = search rules in
+    questions_written _ _ _ c.args.i c.before.before.before.before.before.before.before.numbers_of-c.result c.args.row c.before.before.before.before.before.before.before.before.before.whole.ensures h l c.before.before.before.before.before.before.before.numbers_of-c.ensures (c.before.before.store.ensures.fits (omega arith)) c.write.ensures)
     (λ c. λ h. absurd (omega (arith, h))))

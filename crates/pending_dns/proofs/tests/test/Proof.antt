@@ -5,7 +5,7 @@ use Rattle.pending_dns.proofs.tests.test.Tie as tie
 
 pub test_spec : {M : Type 1} → statement M
 test_spec = tie.close (tie.spec (λ c. search rules) (λ c κs. tt) (λ c. search rules) (λ c κs. tt) (λ c. search rules) (λ c κs. tt) (λ c. search rules) (λ c κs. tt)
-    (λ c. rw c.before.before.q.given.1 c.key-is.ensures)
-    (λ c. rw c.before.before.q2.given.1 c.key-is-not.ensures)
-    (λ c. rw c.before.before.q3.given.1 c.not-for.ensures)
-    (λ c. rw c.before.before.q4.given.1 c.mentioned.ensures))
+    (λ c. rw c.before.in-KeyIs.is c.key_is.ensures)
+    (λ c. rw c.before.in-KeyIsNot.is c.key_is_not.ensures)
+    (λ c. rw c.before.in-NotFor.is c.not_for.ensures)
+    (λ c. rw c.before.in-Mentions.is c.mentioned.ensures))

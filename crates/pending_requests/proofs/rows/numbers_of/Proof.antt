@@ -10,19 +10,19 @@ pub numbers_of_spec : {M : Type 1} → statement M
 numbers_of_spec = tie.close (tie.spec
     (λ c κs. tt) (λ c κs. tt) (λ c κs. tt) (λ c κs. tt) (λ c κs. tt) (λ c κs. tt) (λ c κs. tt) (λ c κs. tt) (λ c κs. tt) (λ c. search rules) (λ c. search rules) (λ c. search rules) (λ c. search rules) (λ c. search rules) (λ c. search rules) (λ c. search rules) (λ c. search rules) (λ c. search rules) (λ c. search rules) (λ c. search rules) (λ c. search rules) (λ c. search rules) (λ c. search rules) (λ c. search rules) (λ c. search rules) (λ c. search rules) (λ c. search rules) (λ c. search rules) (λ c. search rules) (λ c. search rules) (λ c. search rules)
     (λ c. λ i. record {
-      reference = c.before.before.before.before.before.before.before.before.before.before.reference-numbers.ensures i;
+      reference = c.before.before.before.before.before.before.before.before.before.before.reference_numbers-n_reference.ensures i;
       request = record {
-        number = c.before.before.before.before.before.before.before.before.before.before.before.args.row.request.number;
-        method = c.before.before.before.before.before.before.before.before.method-tag.ensures i;
-        host = record { 0 = c.before.before.before.before.before.before.before.low.ensures i };
-        path = record { 0 = c.before.before.before.before.before.before.low2.ensures i };
-        parameters = c.before.before.before.before.before.before.before.before.before.before.before.args.row.request.parameters;
-        cookies = c.before.before.before.before.before.before.before.before.before.before.before.args.row.request.cookies;
-        origin = c.before.before.before.before.before.origin-numbers.ensures i;
-        referrer = (referrer_flat c.before.before.before.before.referrer-numbers.result ∙ c.before.before.before.before.referrer-numbers.ensures) i;
-        body = c.before.before.before.before.before.before.before.before.before.before.before.args.row.request.body;
+        number = c.args.row.request.number;
+        method = c.before.before.before.before.before.before.before.before.method_tag-n_request_method.ensures i;
+        host = record { 0 = c.before.before.before.before.before.before.before.low-n_request_host.ensures i };
+        path = record { 0 = c.before.before.before.before.before.before.low-n_request_path.ensures i };
+        parameters = c.args.row.request.parameters;
+        cookies = c.args.row.request.cookies;
+        origin = c.before.before.before.before.before.origin_numbers-n_request_origin.ensures i;
+        referrer = (referrer_flat c.before.before.before.before.referrer_numbers-n_request_referrer.result ∙ c.before.before.before.before.referrer_numbers-n_request_referrer.ensures) i;
+        body = c.args.row.request.body;
       };
-      url = c.before.before.url-numbers.ensures i;
-      seal = c.before.seal-numbers.ensures i;
-      address = record { 0 = c.low3.ensures i };
+      url = c.before.before.url_numbers-n_url.ensures i;
+      seal = c.before.seal_numbers-n_seal.ensures i;
+      address = record { 0 = c.low-n_address.ensures i };
     }))

@@ -7,7 +7,7 @@ pub numbers_of_spec : {M : Type 1} → statement M
 numbers_of_spec = tie.close (tie.spec
     (λ c κs. tt) (λ c. search rules) (λ c. search rules)
     (λ c. λ i. record {
-      origin = c.site-numbers.ensures i;
-      top = c.before.before.args.row.top;
-      value = c.before.before.args.row.value;
+      origin = c.site_numbers-n_origin.ensures i;
+      top = c.args.row.top;
+      value = c.args.row.value;
     }))

@@ -6,5 +6,5 @@ pub numbers_of_spec : {M : Type 1} → statement M
 numbers_of_spec = tie.close (tie.spec
     (λ c κs. tt)
     (λ c. λ i. record {
-      host = record { 0 = c.low.ensures i };
+      host = record { 0 = c.low-n_host.ensures i };
     }))

@@ -12,6 +12,6 @@ row_spec = tie.close (tie.spec
     (λ c. omega arith)
     (λ c κs. tt)
     (λ c κs. tt)
-    (λ c. rw (c.half.ensures, c.before.get.ensures) (sts-at c.before.before.before.args.m.now c.before.before.before.args.i c.before.before.if1.true))
+    (λ c. rw (c.half-host.ensures, c.before.get.ensures) (sts-at c.args.m.now c.args.i c.before.before.if-i-lt-STS.true))
     (λ c κs. tt)
-    (λ c. rw c.blank.ensures (read-beyond sts_in c.before.before.args.m.now c.before.before.args.i (omega arith))))
+    (λ c. rw c.blank.ensures (read-beyond sts_in c.args.m.now c.args.i (omega arith))))

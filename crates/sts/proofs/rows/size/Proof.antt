@@ -6,4 +6,4 @@ use Rattle.sts.proofs.rows.size.Statement.{statement}
 use Rattle.sts.proofs.rows.size.Tie as tie
 
 pub size_spec : {M : Type 1} → statement M
-size_spec = tie.close (tie.spec (λ c κs. tt) (λ c. c.used.ensures ∙ sym (counted sts_in c.before.args.m.now)))
+size_spec = tie.close (tie.spec (λ c κs. tt) (λ c. c.used.ensures ∙ sym (counted sts_in c.args.m.now)))

@@ -5,5 +5,5 @@ use Rattle.sts.proofs.tests.test.Tie as tie
 
 pub test_spec : {M : Type 1} → statement M
 test_spec = tie.close (tie.spec (λ c. search rules) (λ c κs. tt) (λ c. search rules) (λ c κs. tt)
-    (λ c. rw c.before.before.q.given.1 c.key-is.ensures)
-    (λ c. rw c.before.before.q2.given.1 c.key-is-not.ensures))
+    (λ c. rw c.before.in-KeyIs.is c.key_is.ensures)
+    (λ c. rw c.before.in-KeyIsNot.is c.key_is_not.ensures))

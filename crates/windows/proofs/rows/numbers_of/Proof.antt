@@ -7,7 +7,7 @@ pub numbers_of_spec : {M : Type 1} → statement M
 numbers_of_spec = tie.close (tie.spec
     (λ c κs. tt) (λ c κs. tt) (λ c. search rules) (λ c. search rules) (λ c. search rules) (λ c. search rules)
     (λ c. λ i. record {
-      number = c.before.before.args.row.number;
-      parent = c.before.parent-numbers.ensures i;
-      opener = c.opener-numbers.ensures i;
+      number = c.args.row.number;
+      parent = c.before.parent_numbers-n_parent.ensures i;
+      opener = c.opener_numbers-n_opener.ensures i;
     }))
