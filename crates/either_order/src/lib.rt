@@ -1,1 +1,3 @@
 // Demand 3, as definitions and proofs alone: see specs and proofs.
+#![tactic(auto)]
+

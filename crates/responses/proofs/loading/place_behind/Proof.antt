@@ -8,13 +8,13 @@ use Rattle.responses.proofs.Histories.{few-up-to}
 use Rattle.responses.proofs.loading.place_behind.Statement.{statement}
 use Rattle.responses.proofs.loading.place_behind.Tie as tie
 
-cast-result : tie.Need-overflow_cast-result
+cast-result : tie.Need-overflow-cast-result
 cast-result c =
-    let x = c.args in omega (arith, c.up_to_lem.ensures, few-up-to (looked x.current.found x.current.row) x.v x.m.now)
+    let x = c.before.args in omega (arith, c.up_to_lem.ensures, few-up-to (looked x.current.found x.current.row) x.v x.m.now)
 
-add-result : tie.Need-overflow_add-result
+add-result : tie.Need-overflow-add-result
 add-result c =
-    let x = c.args in omega (arith, c.up_to_lem.ensures, few-up-to (looked x.current.found x.current.row) x.v x.m.now)
+    let x = c.before.args in omega (arith, c.up_to_lem.ensures, few-up-to (looked x.current.found x.current.row) x.v x.m.now)
 
 returns : tie.Need-returns
 returns c =
