@@ -113,9 +113,13 @@ module _ (b : Tables) (l : Label) (ab : Absent l b) where
   home-named (DnsResolved a) h = absurd (home-question (observed (question a.number) b) (in_questions b a.number) h)
 
   found_waiting : (o : Option Waiting) → ((w : Waiting) → o ≡ some w → In w (b pending_requests)) → In l (waiting_number o) → ⊥
+  found_waiting (some w) h (inr x4) = elim x4 [ ]
+  found_waiting none h x'' = elim x'' [ ]
   found_waiting (some w) h (inl e) = ab.nowhere pending_requests w (h w refl) (inl e)
 
   found-question : (o : Option Question) → ((q : Question) → o ≡ some q → In q (b pending_dns)) → In l (question_number o) → ⊥
+  found-question (some q) h (inr x4) = elim x4 [ ]
+  found-question none h x'' = elim x'' [ ]
   found-question (some q) h (inl e) = ab.nowhere pending_dns q (h q refl) (inl e)
 
   -- an entry that is found stands in a row
@@ -139,6 +143,9 @@ sought_named (Reload w) l i = absurd i
 sought_named (GoForward w) l i = absurd i
 sought_named (GoBack w) l i = absurd i
 sought_named CloseCorrupt l i = absurd i
+sought_named (DnsResolved a) l (inr x3) = elim x3 [ ]
+sought_named (PlainAnswer a) l (inr x'') = elim x'' [ ]
+sought_named (EncryptedAnswer k a) l (inr x') = elim x' [ ]
 sought_named (EncryptedAnswer k a) l (inl e) = inl e
 sought_named (PlainAnswer a) l (inl e) = inl e
 sought_named (DnsResolved a) l (inl e) = inl e

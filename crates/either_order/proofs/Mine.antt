@@ -83,6 +83,9 @@ module _ (b : Tables) (N : Numbered b) where
   sought_mine (GoForward w) new f c m acc l i = absurd i
   sought_mine (GoBack w) new f c m acc l i = absurd i
   sought_mine CloseCorrupt new f c m acc l i = absurd i
+  sought_mine (DnsResolved a) new f c m acc l (inr x4) = elim x4 [ ]
+  sought_mine (PlainAnswer a) new f c m acc l (inr x3) = elim x3 [ ]
+  sought_mine (EncryptedAnswer k a) new f c m acc l (inr x'') = elim x'' [ ]
   sought_mine (EncryptedAnswer k a) new f c m acc l (inl i) = go (observed (keyed k) b) refl
     where
       go : (o : Option Waiting) → observed (keyed k) b ≡ o → Mine (EncryptedAnswer k a) b l

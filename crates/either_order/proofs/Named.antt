@@ -80,6 +80,9 @@ module _ (b : Tables) (l : Label) (ab : Absent l b) where
 own-named : (w : WindowNumber) (c : Command) → local_command w c ≡ true → (l : Label) → In l (command_names c) → l ≡ (window, w.0)
 own-named w Nothing e l i = absurd i
 own-named w (Href url NewWindow noreferrer) e l i = absurd i
+own-named w (Form url method y (Existing x)) e l (inr x6) = elim x6 [ ]
+own-named w (Iframe url (Within x)) e l (inr x5) = elim x5 [ ]
+own-named w (Href url (Existing x) noreferrer) e l (inr x4) = elim x4 [ ]
 own-named w (Href url (Existing x) noreferrer) e l (inl k) = k ∙ ap (λ (v : WindowNumber). (window, v.0)) (same-window x w e)
 own-named w (Iframe url Itself) e l i = absurd i
 own-named w (Iframe url (Within x)) e l (inl k) = k ∙ ap (λ (v : WindowNumber). (window, v.0)) (same-window x w e)
@@ -103,6 +106,12 @@ named-stands (RunScript w out) new b f c m lc acc l i ab = let z = found_some b 
     go (inl k) h = h k
     go (inr j) h = h (own-named w out.command lc l j)
 named-stands (Urlbar NewWindow url) new b f c m lc acc l i ab = i
+named-stands (DnsResolved a) new b f c m lc acc l (inr x9) ab = elim x9 [ ]
+named-stands (PlainAnswer a) new b f c m lc acc l (inr x8) ab = elim x8 [ ]
+named-stands (GoBack w) new b f c m lc acc l (inr x7) ab = elim x7 [ ]
+named-stands (GoForward w) new b f c m lc acc l (inr x6) ab = elim x6 [ ]
+named-stands (Reload w) new b f c m lc acc l (inr x5) ab = elim x5 [ ]
+named-stands (Urlbar (Existing w) url) new b f c m lc acc l (inr x5) ab = elim x5 [ ]
 named-stands (Urlbar (Existing w) url) new b f c m lc acc l (inl k) ab = not_top b l ab w (passed b f c m (observed (top_level w) b) _ _ acc) k
 named-stands (Reload w) new b f c m lc acc l (inl k) ab = let z = found_some b f c m _ (observed (reached w) b) _ acc in not_reached b l ab w z.0 z.1 k
 named-stands (GoForward w) new b f c m lc acc l (inl k) ab = let z = found_some b f c m _ (observed (reached w) b) _ acc in not_reached b l ab w z.0 z.1 k
@@ -115,6 +124,7 @@ named-stands (EncryptedAnswer k a) new b f c m lc acc l i ab = go i
 
     go : In l ((key, k.0) ∷ ((request, a.number.0) ∷ [])) → ⊥
     go (inl h) = not_key b l ab k z.0 z.1 h
+    go (inr (inr x6)) = elim x6 [ ]
     go (inr (inl h)) = ab.nowhere pending_requests z.0 (in_keyed b k z.0 z.1) (inl (h ∙ ap (λ (n : ℕ). (request, n)) (eqb-true a.number.0 z.0.request.number.0 (passed b f c m _ _ _ z.2))))
 named-stands (PlainAnswer a) new b f c m lc acc l (inl h) ab =
     let z = found_some b f c m _ (observed (keyless a.number) b) _ acc in

@@ -67,6 +67,8 @@ module _ (b : Tables) (N : Numbered b) (st : Option WindowNumber) (hs : List Hos
         par Top e k = absurd k
         par (Under n) e (mathlib.Core.Logic.inr x4) = elim x4 [ ]
         par (Under n) e (inl k) = by_colour a (document, n.0) k (window, r.number.0) (colour_child b N few r n i e)
+    tied pending_dns q i a (mathlib.Core.Logic.inr x3) = elim x3 [ ]
+    tied documents d i a (mathlib.Core.Logic.inr x'') = elim x'' [ ]
     tied documents d i a (inl k) = by_colour a (document, d.number.0) k (window, d.window.0) (colour_document b N d i)
     tied cookies r i a j = absurd j
     tied local_storage r i a j = absurd j
@@ -77,6 +79,7 @@ module _ (b : Tables) (N : Numbered b) (st : Option WindowNumber) (hs : List Hos
       where
         seal : (s : Seal) → w.seal ≡ s → In a (seal_label s) → ours_at b st hs a ≡ ours_at b st hs (request, w.request.number.0)
         seal Keyless e k = absurd k
+        seal (Keyed n) e (mathlib.Core.Logic.inr x4) = elim x4 [ ]
         seal (Keyed n) e (inl k) = by_colour a (key, n.0) k (request, w.request.number.0) (colour_key b N w n i e ∙ sym (colour_waiting b N w i))
     tied sts r i a j = absurd j
 
@@ -92,6 +95,8 @@ module _ (b : Tables) (N : Numbered b) (st : Option WindowNumber) (hs : List Hos
     pulled local_storage r i a j = absurd j
     pulled session_storage r i a j = absurd j
     pulled inputs r i a j = absurd j
+    pulled pending_requests w i a (mathlib.Core.Logic.inr x3) = elim x3 [ ]
+    pulled pending_dns q i a (mathlib.Core.Logic.inr x'') = elim x'' [ ]
     pulled pending_dns q i a (inl k) = led q.reference q.request.host (dns, q.number.0) (colour_dns b N q i) a k
     pulled pending_requests w i a (inl k) = led w.reference w.request.host (request, w.request.number.0) (colour_waiting b N w i) a k
     pulled sts r i a j = absurd j

@@ -2,15 +2,15 @@
 use mathlib.Core.Path.{◌≡◌, refl, sym, ◌∙◌, ap}
 use mathlib.Core.Logic.{inl}
 use mathlib.Core.Bool.{Bool, true, false, cond, not}
-use mathlib.Core.List.{List}
+use mathlib.Core.List.{List, [], ◌∷◌}
 use mathlib.Core.Option.{Option, none, some}
 use Prim.Native.Nat.{ℕ, ◌+◌, ◌≤◌}
 use native.Mathlib.Omega.{arith}
 use lib.ListN.{length}
-use Rattle.sorted.specs.Table.{In, All}
+use Rattle.sorted.specs.Table.{In, All, put}
 use Rattle.sorted.proofs.Never.{never}
 use Rattle.sorted.proofs.Member.{in_left, in_right}
-use Rattle.tables.specs.Tables.{Table, windows, documents, pending_dns, pending_requests, Tables}
+use Rattle.tables.specs.Tables.{Table, apply, windows, documents, pending_dns, pending_requests, Tables}
 use Rattle.tables.specs.Labels.{window, document, host, leads, opener_label}
 use Rattle.tables.specs.Rows.{same_window, origin_of, same_origin}
 use Rattle.wim.specs.Nouns.{WindowNumber, Url, Host, Cookie, Method, Data, Matching, Reference, Req, Xhr, Labelled, Sending, Target, NewWindow, Existing, Holder, Itself, Within, Command, Nothing, Href, Iframe, Form, SetScript, SetScriptState, XmlHttpRequest, Back, Forward, Close, PostMessage, Output, RunScript, Document, NoWindow, NoDocument, Unsent, From}
@@ -19,7 +19,7 @@ use Rattle.wim.specs.Navigable.{may_navigate}
 use Rattle.wim.specs.Cookies.{cookie_merge}
 use Rattle.wim.specs.Program.{Program, reached, active, navigated, of_origin, cookies_of, when, with_origin, observed}
 use Rattle.wim.specs.Sending.{cancel_nav, send}
-use Rattle.wim.specs.Script.{opener_unless, otherwise, href, iframe_in, iframe, is_form_method, is_get, form_sending, form, is_forbidden, is_get_or_head, url_origin, xhr_sending, xhr, command, run_script, store, sending_from, no_data}
+use Rattle.wim.specs.Script.{new_top_window, opener_unless, otherwise, href, iframe_in, iframe, is_form_method, is_get, form_sending, form, is_forbidden, is_get_or_head, url_origin, xhr_sending, xhr, command, run_script, store, sending_from, no_data}
 use Rattle.wim.specs.LocalSteps.{new_or_own, own_target, own_holder, local_command, command_hosts, home, hosts, document_host}
 use Rattle.wim.proofs.Numbers.{same-window}
 use Rattle.four_rows.proofs.Adds.{on, four}
@@ -91,7 +91,7 @@ module _ (F : Part) (b : Tables) (W : Whole F b) (w : WindowNumber) (d : Documen
   kept-href : (url : Url) (noreferrer : Bool) (target : Target) → new_or_own w target ≡ true → F.own (host, url.host.0) ≡ true → Keeps F none_yet (href w d storing url noreferrer target) b
   unfolding href
   kept-href url noreferrer NewWindow e oh =
-      L _ (λ c v ov. (((ov, tt, opener_sees noreferrer), tt), 1, (omega arith), kept_navigate F (λ t. after_storing none_yet t + on windows 1 t) (record { 0 = v }) _ ov refl oh (four _ refl) _)) b
+      L _ (λ c v ov. (((ov, tt, opener_sees noreferrer), tt), 1, (omega arith), kept_navigate F (λ t. after_storing none_yet t + on windows 1 t) (record { 0 = v }) _ ov refl oh (four _ refl) (apply windows (put (new_top_window (record { 0 = v }) (opener_unless noreferrer w)) ∷ []) c))) b
   kept-href url noreferrer (Existing x) e oh =
       (same-window x w e, L _ (kept_navigate F (after_storing none_yet) (observed (navigated w d x) b) _ (navigated-own x e) refl oh (four _ refl)) b)
 

@@ -23,6 +23,7 @@ use Rattle.stepping.specs.Holds.{Holds, apart_from, apart, Carries}
 
 -- LISTS OF TABLES.
 differs : (t u : Table) (us : List Table) → apart_from t us ≡ true → In u us → eqb (index t) (index u) ≡ false
+differs t u [] e x'' = elim x'' [ ]
 differs t u (v ∷ us) e (inl p) = go (eqb (index t) (index v)) refl (and_left (not (eqb (index t) (index v))) (apart_from t us) e)
   where
     go : (b : Bool) → eqb (index t) (index v) ≡ b → not b ≡ true → eqb (index t) (index u) ≡ false

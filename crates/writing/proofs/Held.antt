@@ -1,5 +1,5 @@
 -- What the code can hold of each type, by the type itself: its numbers are small, and an array has as many rows as it says.
-use mathlib.Core.List.{List, [], ◌∷◌, map}
+use mathlib.Core.List.{List, [], ◌∷◌}
 use Prim.Native.Nat.{ℕ, zero, suc, ◌≤◌}
 use native.Mathlib.Omega.{arith}
 use lib.ListN.{length, take, length-take}
@@ -7,7 +7,7 @@ use mir.Val.{Val}
 use denote.Array.{each}
 use denote.Laws.{Is}
 use denote.Shadow.{shadow}
-use denote.Struct.Field.{Field}
+use denote.RattleType.{RattleType}
 use Rattle.writing.proofs.CookieRows.{sixty_four}
 use Rattle.sorted.specs.Table.{All}
 use Rattle.types.specs.contracts.Fragment as a-fragment
@@ -47,12 +47,12 @@ referrer-small Unknown vs i = tt
 referrer-small (Known u) vs i = url-small u _ i.1.1.1.1.0
 
 -- each row of an array
-all_held : (F : Field) (P : F.Value → Type 0) → ((x : F.Value) (vs : List Val) → Is F.row (F.into x) vs → P x)
-    → (n : ℕ) (xs : List F.Value) (us : List Val) → shadow (each F.row.Denot F.row.own_val (map F.into xs) us) → All P (take n xs)
-all_held F P f zero xs us i = tt
-all_held F P f (suc n) [] us i = tt
-all_held F P f (suc n) (x ∷ xs) [] i = absurd i
-all_held F P f (suc n) (x ∷ xs) (u ∷ us) i = (f x (u ∷ []) i.0, all_held F P f n xs us i.1)
+all_held : (R : RattleType) (P : R.Denot → Type 0) → ((x : R.Denot) (vs : List Val) → Is R x vs → P x)
+    → (n : ℕ) (xs : List R.Denot) (us : List Val) → shadow (each R.Denot R.own_val xs us) → All P (take n xs)
+all_held R P f zero xs us i = tt
+all_held R P f (suc n) [] us i = tt
+all_held R P f (suc n) (x ∷ xs) [] i = absurd i
+all_held R P f (suc n) (x ∷ xs) (u ∷ us) i = (f x (u ∷ []) i.0, all_held R P f n xs us i.1)
 
 request-small : (q : Request) (vs : List Val) → Is a-request.the_row q vs → RequestSmall q
 request-small q vs i =
@@ -64,7 +64,7 @@ request-small q vs i =
       path = omega arith;
       parameters = omega arith;
       few = simp length-take (omega arith);
-      pairs = all_held a_pair.the_field PairSmall pair_small q.cookies.count q.cookies.rows _ jar.1.1.0.1.1;
+      pairs = all_held a_pair.the_row PairSmall pair_small q.cookies.count q.cookies.rows _ jar.1.1.0.1.1;
       origin = origin-small q.origin _ i.1.1.1.1.1.1.1.1.0;
       referrer = referrer-small q.referrer _ i.1.1.1.1.1.1.1.1.1.0;
       body = omega arith;

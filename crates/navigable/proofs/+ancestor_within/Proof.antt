@@ -26,16 +26,16 @@ below t = and 1 kinds.ps (falls 1 kinds.ps ◌<◌ μ t) reads.Pre
 
 pub +ancestor_within_spec : {M : Type 1} → statement M
 +ancestor_within_spec = close μ λ t. lts.spec (above-reads.Asked, above-reads.Learnt, has-origin-reads.Asked, has-origin-reads.Learnt, below t, reads.Post) (given t) reads.Post
-    (λ c. ancestor-none _ _ _ _ c.if1.true)
+    (λ c. ancestor-none _ _ _ _ c.if-n-eq0.true)
     (λ c κs. tt)
     (λ c. search rules)
     (λ c. search rules)
     (λ c. search rules)
     (λ c κs. tt)
-    (λ c. ancestor_this _ _ _ _ _ c.before.before.before.before.before.before.before.before.if1.false (ap standing (sym c.before.before.before.before.before.a.given.1) ∙ c.before.before.before.before.before.before.before.above.ensures) c.before.before.before.if2.true c.before.has-origin.ensures c.if3.true)
+    (λ c. ancestor_this _ _ _ _ _ c.before.before.before.before.before.before.if-n-eq0.false (ap standing (sym c.before.before.before.before.in-HeldBy.is) ∙ c.before.before.before.before.before.above-a.ensures) c.before.before.before.if-d.true c.before.has_origin.ensures c.if-has_origin.true)
     (λ c. omega arith)
     (λ c κs. (omega arith, tt))
-    (λ c. ancestor-further _ _ _ _ _ c.before.before.before.before.before.before.before.before.before.if1.false (ap standing (sym c.before.before.before.before.before.before.a.given.1) ∙ c.before.before.before.before.before.before.before.before.above.ensures) c.before.before.before.before.if2.true c.before.before.has-origin.ensures c.before.if3.false c.ancestor-within.ensures)
-    (λ c. ancestor-at _ _ _ _ _ c.before.before.before.if1.false (ap standing (sym c.enum_told.given.1) ∙ c.before.before.above.ensures))
-    (λ c. ancestor-at _ _ _ _ _ c.before.before.before.if1.false (ap standing (sym c.enum-told2.given.1) ∙ c.before.before.above.ensures))
-    (λ c. ancestor-ends _ _ _ _ _ c.before.before.before.before.before.if1.false (ap standing (sym c.before.before.a.given.1) ∙ c.before.before.before.before.above.ensures) c.if2.false)
+    (λ c. ancestor-further _ _ _ _ _ c.before.before.before.before.before.before.before.if-n-eq0.false (ap standing (sym c.before.before.before.before.before.in-HeldBy.is) ∙ c.before.before.before.before.before.before.above-a.ensures) c.before.before.before.before.if-d.true c.before.before.has_origin.ensures c.before.if-has_origin.false c.ancestor_within.ensures)
+    (λ c. ancestor-at _ _ _ _ _ c.before.before.if-n-eq0.false (ap standing (sym c.in-Missing.is) ∙ c.before.above-a.ensures))
+    (λ c. ancestor-at _ _ _ _ _ c.before.before.if-n-eq0.false (ap standing (sym c.in-Topmost.is) ∙ c.before.above-a.ensures))
+    (λ c. ancestor-ends _ _ _ _ _ c.before.before.before.if-n-eq0.false (ap standing (sym c.before.in-HeldBy.is) ∙ c.before.before.above-a.ensures) c.if-d.false)

@@ -27,15 +27,15 @@ below t = and 1 kinds.ps (falls 1 kinds.ps ◌<◌ μ t) reads.Pre
 
 pub +follows_within_spec : {M : Type 1} → statement M
 +follows_within_spec = close μ λ t. lts.spec (is-reached-reads.Asked, is-reached-reads.Learnt, directly-reads.Asked, directly-reads.Learnt, opener-of-reads.Asked, opener-of-reads.Learnt, below t, reads.Post) (given t) reads.Post
-    (λ c. follows-none _ _ _ _ _ c.if1.true)
+    (λ c. follows-none _ _ _ _ _ c.if-n-eq0.true)
     (λ c κs. tt)
     (λ c κs. tt)
-    (λ c. follows_directly _ _ _ _ _ c.before.before.before.before.if1.false c.before.before.before.is-reached.ensures c.before.before.if2.true c.before.navigable-directly.ensures c.if3.true)
+    (λ c. follows_directly _ _ _ _ _ c.before.before.before.before.if-n-eq0.false c.before.before.before.is_reached.ensures c.before.before.if-is_reached.true c.before.navigable_directly.ensures c.if-navigable_directly.true)
     (λ c κs. tt)
     (λ c. search rules)
     (λ c. search rules)
     (λ c. omega arith)
     (λ c κs. (omega arith, tt))
-    (λ c. follows-opener _ _ _ _ _ c.before.before.before.before.before.before.before.if1.false c.before.before.before.before.before.before.is-reached.ensures c.before.before.before.before.before.if2.true c.before.before.before.before.navigable-directly.ensures Nobody c.before.before.before.if3.false (sym c.enum_told.given.1 ∙ c.before.before.opener-of.ensures) refl)
-    (λ c. follows-opener _ _ _ _ _ c.before.before.before.before.before.before.before.before.before.if1.false c.before.before.before.before.before.before.before.before.is-reached.ensures c.before.before.before.before.before.before.before.if2.true c.before.before.before.before.before.before.navigable-directly.ensures (OpenedBy _) c.before.before.before.before.before.if3.false (sym c.before.before.p.given.1 ∙ c.before.before.before.before.opener-of.ensures) c.follows-within.ensures)
-    (λ c. follows_unreached _ _ _ _ _ c.before.before.if1.false c.before.is-reached.ensures c.if2.false)
+    (λ c. follows-opener _ _ _ _ _ c.before.before.before.before.before.before.if-n-eq0.false c.before.before.before.before.before.is_reached.ensures c.before.before.before.before.if-is_reached.true c.before.before.before.navigable_directly.ensures Nobody c.before.before.if-navigable_directly.false (sym c.in-Nobody.is ∙ c.before.opener_of-p.ensures) refl)
+    (λ c. follows-opener _ _ _ _ _ c.before.before.before.before.before.before.before.if-n-eq0.false c.before.before.before.before.before.before.is_reached.ensures c.before.before.before.before.before.if-is_reached.true c.before.before.before.before.navigable_directly.ensures (OpenedBy _) c.before.before.before.if-navigable_directly.false (sym c.before.in-OpenedBy.is ∙ c.before.before.opener_of-p.ensures) c.follows_within.ensures)
+    (λ c. follows_unreached _ _ _ _ _ c.before.before.if-n-eq0.false c.before.is_reached.ensures c.if-is_reached.false)

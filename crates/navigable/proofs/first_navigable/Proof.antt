@@ -10,6 +10,6 @@ use Rattle.navigable.proofs.first_navigable.Tie as tie
 pub first_navigable_spec : {M : Type 1} → statement M
 first_navigable_spec = tie.close (tie.spec
     (λ c κs. tt)
-    (λ c. no_row _ _ _ c.before.navigable-set.ensures c.if1.true)
-    (λ c. omega (arith, trailing_le 32 c.before.navigable-set.result))
-    (λ c. some-row _ _ _ (omega (arith, counted windows_in c.before.before.args.m.now)) c.before.navigable-set.ensures (omega (arith, c.if1.false))))
+    (λ c. no_row _ _ _ c.before.navigable_set-bits.ensures c.if-bits-eq0.true)
+    (λ c. omega (arith, trailing_le 32 c.before.navigable_set-bits.result))
+    (λ c. some-row _ _ _ (omega (arith, counted windows_in c.args.m.now)) c.before.navigable_set-bits.ensures (omega (arith, c.if-bits-eq0.false))))

@@ -12,5 +12,5 @@ has_origin_spec = tie.close (tie.spec
     (λ c κs. tt)
     (λ c κs. tt)
     (λ c κs. tt)
-    (λ c. c.both.ensures ∙ found-origin _ c.before.before.before.before.active-document.result.found _ c.before.before.before.before.active-document.result.row _ c.before.before.before.before.active-document.ensures
-    (c.before.same-origin.ensures ∙ ap (λ (p : Origin). same_origin p c.before.before.before.before.before.args.o) c.before.before.origin-of.ensures)))
+    (λ c. c.both.ensures ∙ found-origin _ c.before.before.before.before.active_document-a.result.found _ c.before.before.before.before.active_document-a.result.row _ c.before.before.before.before.active_document-a.ensures
+    (c.before.same_origin-same.ensures ∙ ap (λ (p : Origin). same_origin p c.args.o) c.before.before.origin_of-p.ensures)))

@@ -10,6 +10,6 @@ use Rattle.navigable.proofs.may_navigate.Tie as tie
 pub may_navigate_spec : {M : Type 1} → statement M
 may_navigate_spec = tie.close (tie.spec
     (λ c κs. tt)
-    (λ c. omega (arith, c.size.ensures, counted windows_in c.before.args.m.now))
+    (λ c. omega (arith, c.size-n.ensures, counted windows_in c.args.m.now))
     (λ c κs. tt)
-    (λ c. c.follows-within.ensures ∙ all_openers _ _ _ _ _ c.before.size.ensures))
+    (λ c. c.follows_within.ensures ∙ all_openers _ _ _ _ _ c.before.size-n.ensures))

@@ -11,7 +11,7 @@ navigable_set_spec = tie.close (tie.spec
     (λ c κs. tt)
     (λ c κs. tt)
     (λ c κs. tt)
-    (λ c. set-displayed _ _ _ c.before.before.before.before.before.is-reached.result c.before.before.before.before.before.before.active-document.result.found c.before.before.before.before.before.before.active-document.result.row c.before.before.before.before.before.is-reached.ensures c.before.before.before.before.before.before.active-document.ensures
-    (sym c.before.before.before.before.both.ensures ∙ c.before.before.before.if1.true) c.before.origin-of.ensures c.mask.ensures)
-    (λ c. set-empty _ _ _ c.before.before.is-reached.result c.before.before.before.active-document.result.found c.before.before.before.active-document.result.row c.before.before.is-reached.ensures c.before.before.before.active-document.ensures
-    (sym c.before.both.ensures ∙ c.if1.false)))
+    (λ c. set-displayed _ _ _ c.before.before.before.before.before.is_reached-r.result c.before.before.before.before.before.before.active_document-a.result.found c.before.before.before.before.before.before.active_document-a.result.row c.before.before.before.before.before.is_reached-r.ensures c.before.before.before.before.before.before.active_document-a.ensures
+    (sym c.before.before.before.before.both-displayed.ensures ∙ c.before.before.before.if-displayed.true) c.before.origin_of-o.ensures c.mask.ensures)
+    (λ c. set-empty _ _ _ c.before.before.is_reached-r.result c.before.before.before.active_document-a.result.found c.before.before.before.active_document-a.result.row c.before.before.is_reached-r.ensures c.before.before.before.active_document-a.ensures
+    (sym c.before.both-displayed.ensures ∙ c.if-displayed.false)))

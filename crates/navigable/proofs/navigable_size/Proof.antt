@@ -8,4 +8,4 @@ use Rattle.navigable.proofs.navigable_size.Tie as tie
 pub navigable_size_spec : {M : Type 1} → statement M
 navigable_size_spec = tie.close (tie.spec
     (λ c κs. tt)
-    (λ c. ap ones c.navigable-set.ensures ∙ navigable_ones _ _ _))
+    (λ c. ap ones c.navigable_set-bits.ensures ∙ navigable_ones _ _ _))

@@ -9,5 +9,5 @@ pub navigated_spec : {M : Type 1} → statement M
 navigated_spec = tie.close (tie.spec
     (λ c κs. tt)
     (λ c κs. tt)
-    (λ c. let a = c.before.before.before.args in leads (table windows_in a.m.now) (table documents_in a.m.now) _ a.w a.v c.before.may-navigate.ensures c.before.before.origin-of.ensures c.if1.true)
-    (λ c. let a = c.before.before.before.args in leads (table windows_in a.m.now) (table documents_in a.m.now) _ a.w a.v c.before.may-navigate.ensures c.before.before.origin-of.ensures c.if1.false))
+    (λ c. let a = c.args in leads (table windows_in a.m.now) (table documents_in a.m.now) _ a.w a.v c.before.may_navigate.ensures c.before.before.origin_of-o.ensures c.if-may_navigate.true)
+    (λ c. let a = c.args in leads (table windows_in a.m.now) (table documents_in a.m.now) _ a.w a.v c.before.may_navigate.ensures c.before.before.origin_of-o.ensures c.if-may_navigate.false))

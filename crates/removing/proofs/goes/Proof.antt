@@ -9,4 +9,4 @@ goes_spec = tie.close (tie.spec
     (λ c κs. tt)
     (λ c κs. tt)
     (λ c κs. tt)
-    (λ c. c.either.ensures ∙ ap₂ ◌||◌ c.before.before.one-of.ensures c.before.is-under.ensures))
+    (λ c. c.either.ensures ∙ ap₂ ◌||◌ c.before.before.one_of-named.ensures c.before.is_under-under.ensures))

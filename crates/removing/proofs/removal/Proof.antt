@@ -9,4 +9,4 @@ pub removal_spec : {M : Type 1} → statement M
 removal_spec = tie.close (tie.spec
     (λ c κs. tt)
     (λ c κs. tt)
-    (λ c. ap₂ (λ (w : List WindowNumber) (d : List DocumentNumber). record { windows = w; documents = d }) c.before.windows-under.ensures c.documents-under.ensures))
+    (λ c. ap₂ (λ (w : List WindowNumber) (d : List DocumentNumber). record { windows = w; documents = d }) c.before.windows_under-w.ensures c.documents_under-d.ensures))

@@ -8,8 +8,8 @@ use Rattle.removing.proofs.remove.Tie as tie
 returns : tie.Need-returns
 returns c =
     carries-then refl
-    (carries-then refl (keep-carries windows c.before.before.before.before.without.ensures) (keep-carries documents c.before.before.without2.ensures))
-    (keep-carries inputs c.without3.ensures)
+    (carries-then refl (keep-carries windows c.before.before.before.before.without.ensures) (keep-carries documents c.before.before.without-2.ensures))
+    (keep-carries inputs c.without-3.ensures)
 
 pub remove_spec : {M : Type 1} → statement M
 remove_spec = tie.close (tie.spec (λ c κs. tt) (λ c κs. tt) (λ c κs. tt) returns)

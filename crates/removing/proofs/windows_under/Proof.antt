@@ -17,10 +17,10 @@ use Rattle.removing.proofs.windows_under.Tie as tie
 abbrev hangs : List Window → List Document → List DocumentNumber → Window → Bool
 hangs ws ds gone r = is_under steps ws ds gone r.number
 
-abbrev invariant-loop : tie.invariant-loop
+abbrev invariant-loop : tie.invariant-loop-i
 invariant-loop m gone n out₀ j₀ i₀ out j i = Gathering windows_in (hangs (table windows_in m) (table documents_in m) (document_numbers gone)) (λ (r : Window). r.number) m n out.rows i j
 
-abbrev decreases-loop : tie.decreases-loop
+abbrev decreases-loop : tie.decreases-loop-i
 decreases-loop m gone n out₀ j₀ i₀ out j i = n - i
 
 pub windows_under_spec : {M : Type 1} → statement M
@@ -28,16 +28,16 @@ unfolding removal
 windows_under_spec = tie.close (tie.spec invariant-loop decreases-loop
     (λ c κs. tt)
     (λ c κs. tt)
-    (λ c. gather_with_room 33 (search mapped) (omega arith) c.before.size.ensures)
+    (λ c. gather_with_room 33 (search mapped) (omega arith) c.before.size-n.ensures)
     (λ c κs. tt)
     (λ c κs. tt)
     (λ c. omega arith)
-    (λ c. omega (arith, gather_below c.before.before.before.before.before.loop.invariant))
+    (λ c. omega (arith, gather_below c.before.before.before.before.before.loop-i.invariant))
     (λ c. omega arith)
     (λ c. omega arith)
     (λ c. omega arith)
-    (λ c. gather_takes c.before.before.before.before.before.loop.invariant c.before.before.before.row.ensures (omega arith) (sym c.before.is-under.ensures ∙ c.if1.true))
+    (λ c. gather_takes c.before.before.before.before.before.loop-i.invariant c.before.before.before.row-row.ensures (omega arith) (sym c.before.is_under.ensures ∙ c.if-is_under.true))
     (λ c. omega arith)
     (λ c. omega arith)
-    (λ c. gather_skips c.before.before.before.before.before.loop.invariant c.before.before.before.row.ensures (omega arith) (sym c.before.is-under.ensures ∙ c.if1.false))
-    (λ c. gather_end c.before.loop.invariant (omega arith)))
+    (λ c. gather_skips c.before.before.before.before.before.loop-i.invariant c.before.before.before.row-row.ensures (omega arith) (sym c.before.is_under.ensures ∙ c.if-is_under.false))
+    (λ c. gather_end c.before.loop-i.invariant (omega arith)))

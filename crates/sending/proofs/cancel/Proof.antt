@@ -7,11 +7,11 @@ use Rattle.sending.proofs.Cancelling.{bare_carries}
 use Rattle.sending.proofs.cancel.Statement.{statement}
 use Rattle.sending.proofs.cancel.Tie as tie
 
-returns : tie.Need-returns
-returns c = rw c.enum_told.given.1 (bare_carries c.enum_told.given.0.0 c.before.before.args.m.now)
+returns : tie.Need-returns-in-Bare
+returns c = rw c.in-Bare.is (bare_carries c.in-Bare.field-0 c.args.m.now)
 
-returns-2 : tie.Need-returns-2
-returns-2 c = rw c.before.before.before.before.before.what.given.1 (carries-then refl (keep-carries pending_requests c.before.before.keep.ensures) (keep-carries pending_dns c.keep2.ensures))
+returns-2 : tie.Need-returns-in-Labelled
+returns-2 c = rw c.before.before.before.before.in-Labelled.is (carries-then refl (keep-carries pending_requests c.before.before.keep.ensures) (keep-carries pending_dns c.keep-in-Labelled.ensures))
 
 pub cancel_spec : {M : Type 1} → statement M
 cancel_spec = tie.close (tie.spec (λ c. search rules) (λ c. search rules) (λ c κs. tt) (λ c κs. tt) returns returns-2)

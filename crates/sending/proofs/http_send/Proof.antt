@@ -10,12 +10,12 @@ use Rattle.sending.proofs.http_send.Tie as tie
 
 returns : tie.Need-returns
 returns c =
-    let a = c.before.before.before.before.before.before.before.before.before.args in
+    let a = c.args in
     let s = Resolve a.o.url.host a.f.dns in
     record {
-      put = c.before.before.before.send.result;
-      carries = c.before.before.before.send.ensures;
-      concludes = subst (λ (x : Bool). Concludes x s blank_request c.conclude.result) c.before.before.both.ensures (subst (λ (q : Request). Concludes c.before.before.both.result s q c.conclude.result) c.before.no-request.ensures c.conclude.ensures);
+      put = c.before.before.before.send-put.result;
+      carries = c.before.before.before.send-put.ensures;
+      concludes = subst (λ (x : Bool). Concludes x s blank_request c.conclude.result) c.before.before.both-all.ensures (subst (λ (q : Request). Concludes c.before.before.both-all.result s q c.conclude.result) c.before.no_request-none.ensures c.conclude.ensures);
     }
 
 pub http_send_spec : {M : Type 1} → statement M

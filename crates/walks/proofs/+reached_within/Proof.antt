@@ -25,14 +25,14 @@ below t = and 1 kinds.ps (falls 1 kinds.ps ◌<◌ μ t) reads.Pre
 
 pub +reached_within_spec : {M : Type 1} → statement M
 +reached_within_spec = close μ λ t. lts.spec (above-reads.Asked, above-reads.Learnt, below t, reads.Post) (given t) reads.Post
-    (λ c. reached-none _ _ _ c.if1.true)
+    (λ c. reached-none _ _ _ c.if-n-eq0.true)
     (λ c κs. tt)
     (λ c. search rules)
     (λ c. search rules)
     (λ c. search rules)
     (λ c. omega arith)
     (λ c κs. (omega arith, tt))
-    (λ c. reached-further _ _ _ _ c.before.before.before.before.before.before.before.if1.false (ap standing (sym c.before.before.before.before.a.given.1) ∙ c.before.before.before.before.before.before.above.ensures) c.before.before.if2.true c.reached-within.ensures)
-    (λ c. reached-at _ _ _ _ c.before.before.before.if1.false (ap standing (sym c.enum_told.given.1) ∙ c.before.before.above.ensures))
-    (λ c. reached-at _ _ _ _ c.before.before.before.if1.false (ap standing (sym c.enum-told2.given.1) ∙ c.before.before.above.ensures))
-    (λ c. reached-ends _ _ _ _ c.before.before.before.before.before.if1.false (ap standing (sym c.before.before.a.given.1) ∙ c.before.before.before.before.above.ensures) c.if2.false)
+    (λ c. reached-further _ _ _ _ c.before.before.before.before.before.if-n-eq0.false (ap standing (sym c.before.before.before.in-HeldBy.is) ∙ c.before.before.before.before.above-a.ensures) c.before.before.if-d.true c.reached_within.ensures)
+    (λ c. reached-at _ _ _ _ c.before.before.if-n-eq0.false (ap standing (sym c.in-Missing.is) ∙ c.before.above-a.ensures))
+    (λ c. reached-at _ _ _ _ c.before.before.if-n-eq0.false (ap standing (sym c.in-Topmost.is) ∙ c.before.above-a.ensures))
+    (λ c. reached-ends _ _ _ _ c.before.before.before.if-n-eq0.false (ap standing (sym c.before.in-HeldBy.is) ∙ c.before.before.above-a.ensures) c.if-d.false)

@@ -26,15 +26,15 @@ below t = and 1 kinds.ps (falls 1 kinds.ps ◌<◌ μ t) reads.Pre
 
 pub +under_within_spec : {M : Type 1} → statement M
 +under_within_spec = close μ λ t. lts.spec (above-reads.Asked, above-reads.Learnt, one-of-reads.Asked, one-of-reads.Learnt, below t, reads.Post) (given t) reads.Post
-    (λ c. under_none _ _ _ _ c.if1.true)
+    (λ c. under_none _ _ _ _ c.if-n-eq0.true)
     (λ c κs. tt)
     (λ c. search rules)
     (λ c. search rules)
     (λ c. search rules)
     (λ c κs. tt)
-    (λ c. under_this _ _ _ _ _ c.before.before.before.before.before.before.before.if1.false (ap standing (sym c.before.before.before.before.a.given.1) ∙ c.before.before.before.before.before.before.above.ensures) (sym c.before.one-of.ensures ∙ c.if2.true))
+    (λ c. under_this _ _ _ _ _ c.before.before.before.before.before.if-n-eq0.false (ap standing (sym c.before.before.before.in-HeldBy.is) ∙ c.before.before.before.before.above-a.ensures) (sym c.before.one_of.ensures ∙ c.if-one_of.true))
     (λ c. omega arith)
     (λ c κs. (omega arith, tt))
-    (λ c. under-at _ _ _ _ _ c.before.before.before.if1.false (ap standing (sym c.enum_told.given.1) ∙ c.before.before.above.ensures))
-    (λ c. under-at _ _ _ _ _ c.before.before.before.if1.false (ap standing (sym c.enum-told2.given.1) ∙ c.before.before.above.ensures))
-    (λ c. under-further _ _ _ _ _ c.before.before.before.before.before.before.before.before.before.if1.false (ap standing (sym c.before.before.before.before.before.before.a.given.1) ∙ c.before.before.before.before.before.before.before.before.above.ensures) (sym c.before.before.before.one-of.ensures ∙ c.before.before.if2.false) c.under-within.ensures)
+    (λ c. under-at _ _ _ _ _ c.before.before.if-n-eq0.false (ap standing (sym c.in-Missing.is) ∙ c.before.above-a.ensures))
+    (λ c. under-at _ _ _ _ _ c.before.before.if-n-eq0.false (ap standing (sym c.in-Topmost.is) ∙ c.before.above-a.ensures))
+    (λ c. under-further _ _ _ _ _ c.before.before.before.before.before.before.before.if-n-eq0.false (ap standing (sym c.before.before.before.before.before.in-HeldBy.is) ∙ c.before.before.before.before.before.before.above-a.ensures) (sym c.before.before.before.one_of.ensures ∙ c.before.before.if-one_of.false) c.under_within.ensures)

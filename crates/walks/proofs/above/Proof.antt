@@ -10,5 +10,5 @@ unfolding above
 above_spec = tie.close (tie.spec
     (λ c κs. tt)
     (λ c κs. tt)
-    (λ c. c.Above-parent.ensures ∙ ap (above_row _) (looked_yes c.before.before.before.window-numbered.result.found c.before.before.before.window-numbered.result.row c.before.before.before.window-numbered.ensures c.before.before.if1.true))
-    (λ c. ap (above_row _) (looked-no c.before.window-numbered.result.found c.before.window-numbered.result.row c.before.window-numbered.ensures c.if1.false)))
+    (λ c. c.above_parent.ensures ∙ ap (above_row _) (looked_yes c.before.before.before.window_numbered-f.result.found c.before.before.before.window_numbered-f.result.row c.before.before.before.window_numbered-f.ensures c.before.before.if-f.true))
+    (λ c. ap (above_row _) (looked-no c.before.window_numbered-f.result.found c.before.window_numbered-f.result.row c.before.window_numbered-f.ensures c.if-f.false)))

@@ -11,4 +11,4 @@ pub active_document_spec : {M : Type 1} → statement M
 unfolding active_document documents_of
 active_document_spec = tie.close (tie.spec
     (λ c κs. tt)
-    (λ c. c.first.ensures ∙ sym (find-both (λ (d : Document). same_window d.window c.before.args.w) (λ (d : Document). d.active) _)))
+    (λ c. c.first.ensures ∙ sym (find-both (λ (d : Document). same_window d.window c.args.w) (λ (d : Document). d.active) _)))

@@ -6,4 +6,4 @@ use Rattle.walks.proofs.is_reached.Tie as tie
 pub is_reached_spec : {M : Type 1} → statement M
 is_reached_spec = tie.close (tie.spec
     (λ c κs. tt)
-    (λ c. looked-there _ c.reached.result.window _ c.reached.ensures))
+    (λ c. looked-there _ c.reached-t.result.window _ c.reached-t.ensures))

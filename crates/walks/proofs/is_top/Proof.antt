@@ -9,4 +9,4 @@ is_top_spec = tie.close (tie.spec
     (λ c κs. tt)
     (λ c κs. tt)
     (λ c κs. tt)
-    (λ c. c.both.ensures ∙ top-row c.before.before.before.window-numbered.result.found _ c.before.before.before.window-numbered.result.row _ c.before.before.before.window-numbered.ensures c.before.is-highest.ensures))
+    (λ c. c.both.ensures ∙ top-row c.before.before.before.window_numbered-f.result.found _ c.before.before.before.window_numbered-f.result.row _ c.before.before.before.window_numbered-f.ensures c.before.is_highest-top.ensures))

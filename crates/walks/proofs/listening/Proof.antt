@@ -12,6 +12,6 @@ listening_spec = tie.close (tie.spec
     (λ c κs. tt)
     (λ c κs. tt)
     (λ c κs. tt)
-    (λ c. let f = c.before.before.before.before.before.numbered.result in
-    ap (λ (b : Bool). looked b f.row) (c.both2.ensures ∙ ap (λ (b : Bool). f.found && b) c.before.both.ensures)
-    ∙ heard _ _ f.found c.before.before.is-reached.result f.row _ c.before.before.before.before.before.numbered.ensures c.before.before.is-reached.ensures))
+    (λ c. let f = c.before.before.before.before.before.numbered-f.result in
+    ap (λ (b : Bool). looked b f.row) (c.both-found.ensures ∙ ap (λ (b : Bool). f.found && b) c.before.both-heard.ensures)
+    ∙ heard _ _ f.found c.before.before.is_reached-r.result f.row _ c.before.before.before.before.before.numbered-f.ensures c.before.before.is_reached-r.ensures))

@@ -16,7 +16,7 @@ of_origin_spec = tie.close (tie.spec
     (λ c κs. tt)
     (λ c κs. tt)
     (λ c κs. tt)
-    (λ c. let a = c.before.before.before.before.before.before.before.active-document.result in
-    ap (λ (b : Bool). looked b a.row) (c.both2.ensures ∙ ap (λ (b : Bool). c.before.is-reached.result && b) c.before.before.both.ensures)
-    ∙ of-origin c.before.before.before.before.before.before.before.before.args.d a.row _ a.found c.before.is-reached.result c.before.before.before.same-origin.result c.before.before.before.before.before.before.before.active-document.ensures
-    (c.before.before.before.same-origin.ensures ∙ ap₂ same_origin c.before.before.before.before.before.origin-of.ensures c.before.before.before.before.origin-of2.ensures) c.before.is-reached.ensures))
+    (λ c. let a = c.before.before.before.before.before.before.before.active_document-a.result in
+    ap (λ (b : Bool). looked b a.row) (c.both-found.ensures ∙ ap (λ (b : Bool). c.before.is_reached-r.result && b) c.before.before.both-here.ensures)
+    ∙ of-origin c.args.d a.row _ a.found c.before.is_reached-r.result c.before.before.before.same_origin-same.result c.before.before.before.before.before.before.before.active_document-a.ensures
+    (c.before.before.before.same_origin-same.ensures ∙ ap₂ same_origin c.before.before.before.before.before.origin_of-p.ensures c.before.before.before.before.origin_of-o.ensures) c.before.is_reached-r.ensures))

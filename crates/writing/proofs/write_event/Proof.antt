@@ -6,28 +6,28 @@ use Rattle.writing.proofs.Tops.{counts, wrote_none, wrote-some}
 use Rattle.writing.proofs.write_event.Statement.{statement}
 use Rattle.writing.proofs.write_event.Tie as tie
 
-returns : tie.Need-returns
-returns c = wrote_none _ _ _ c.before.length-of.ensures c.if1.true
+returns : tie.Need-returns-then-n-eq0
+returns c = wrote_none _ _ _ c.before.length_of-n.ensures c.if-n-eq0.true
 
 -- it has room
-returns-2 : tie.Need-returns-2
+returns-2 : tie.Need-returns-then-n-out
 returns-2 c =
     let at = c.before.before.before.before in
-    let n = at.before.before.before.length-of.ensures in
-    wrote-some _ n at.before.before.if1.false
-    (sent-there _ (counts n) (omega arith) (omega arith) (omega arith) c.before.before.write-sent.ensures)
+    let n = at.before.before.before.length_of-n.ensures in
+    wrote-some _ n at.before.before.if-n-eq0.false
+    (sent-there _ (counts n) (omega arith) (omega arith) (omega arith) c.before.before.write_sent.ensures)
 
 -- it has none
-returns-3 : tie.Need-returns-3
+returns-3 : tie.Need-returns-else-n-out
 returns-3 c =
-    let n = c.before.before.before.length-of.ensures in
-    wrote-some _ n c.before.before.if1.false (sent_not _ (counts n) (omega arith) (omega arith))
+    let n = c.before.before.before.length_of-n.ensures in
+    wrote-some _ n c.before.before.if-n-eq0.false (sent_not _ (counts n) (omega arith) (omega arith))
 
 -- the place lies past the end
-returns-4 : tie.Need-returns-4
+returns-4 : tie.Need-returns-else-place-out
 returns-4 c =
-    let n = c.before.before.length-of.ensures in
-    wrote-some _ n c.before.if1.false (sent_not _ (counts n) (omega arith) (omega arith))
+    let n = c.before.before.length_of-n.ensures in
+    wrote-some _ n c.before.if-n-eq0.false (sent_not _ (counts n) (omega arith) (omega arith))
 
 pub write_event_spec : {M : Type 1} → statement M
 write_event_spec =

@@ -6,18 +6,18 @@ use Rattle.reading.proofs.choices.read_script.Tie as tie
 
 returns : tie.Need-returns
 returns c =
-    (opened c.before.before.before.before.before.before.before.before.before.before.before.mark.ensures
-    (passed _ c.before.before.before.before.before.before.before.before.before.word.ensures
-    (passed _ c.before.before.before.before.before.before.before.before.read-window.ensures
-    (passed _ c.before.before.before.before.before.before.before.number.ensures
-    (passed _ c.before.before.before.before.before.before.read-cookies.ensures
-    (passed _ c.before.before.before.before.before.optional.ensures
-    (passed _ c.before.before.before.before.optional2.ensures
-    (passed _ c.before.before.before.read-command.ensures
-    (closed c.before.before.mark2.ensures)))))))))
+    (opened c.before.before.before.before.before.before.before.before.before.before.before.before.mark-a.ensures
+    (passed _ c.before.before.before.before.before.before.before.before.before.word-b.ensures
+    (passed _ c.before.before.before.before.before.before.before.before.read_window-w.ensures
+    (passed _ c.before.before.before.before.before.before.before.number-state.ensures
+    (passed _ c.before.before.before.before.before.before.read_cookies-c.ensures
+    (passed _ c.before.before.before.before.before.optional-local.ensures
+    (passed _ c.before.before.before.before.optional-session.ensures
+    (passed _ c.before.before.before.read_command-d.ensures
+    (closed c.before.before.mark-e.ensures)))))))))
 
 pub read_script_spec : {M : Type 1} → statement M
 read_script_spec =
     tie.close
-    (tie.spec (λ c κs. search rules) (λ c. search rules) (λ c κs. search rules) (λ c κs. search rules) (λ c κs. search rules)
+    (tie.spec (λ c κs. search rules) (λ c κs. search rules) (λ c κs. search rules) (λ c κs. search rules)
     (λ c κs. search rules) (λ c κs. search rules) (λ c κs. search rules) (λ c κs. search rules) (λ c κs. search rules) returns)

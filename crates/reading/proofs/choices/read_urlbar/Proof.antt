@@ -6,18 +6,18 @@ use Rattle.reading.proofs.choices.read_urlbar.Tie as tie
 
 returns : tie.Need-returns
 returns c =
-    (opened c.before.before.before.before.before.before.before.before.before.mark.ensures
-    (passed _ c.before.before.before.before.before.before.before.word.ensures
-    (passed _ c.before.before.before.before.before.before.read-place.ensures
-    (passed _ c.before.before.before.before.before.read-protocol.ensures
-    (passed _ c.before.before.before.before.short-number.ensures
-    (passed _ c.before.before.before.short-number2.ensures
-    (passed _ c.before.before.read-fragment.ensures
-    (passed _ c.before.optional.ensures
-    (closed c.mark2.ensures)))))))))
+    (opened c.before.before.before.before.before.before.before.before.before.before.mark-a.ensures
+    (passed _ c.before.before.before.before.before.before.before.word-b.ensures
+    (passed _ c.before.before.before.before.before.before.read_place-t.ensures
+    (passed _ c.before.before.before.before.before.read_protocol-scheme.ensures
+    (passed _ c.before.before.before.before.short_number-host.ensures
+    (passed _ c.before.before.before.short_number-path.ensures
+    (passed _ c.before.before.read_fragment-f.ensures
+    (passed _ c.before.optional-parameters.ensures
+    (closed c.mark-e.ensures)))))))))
 
 pub read_urlbar_spec : {M : Type 1} → statement M
 read_urlbar_spec =
     tie.close
-    (tie.spec (λ c κs. search rules) (λ c. search rules) (λ c κs. search rules) (λ c κs. search rules) (λ c κs. search rules)
+    (tie.spec (λ c κs. search rules) (λ c κs. search rules) (λ c κs. search rules) (λ c κs. search rules)
     (λ c κs. search rules) (λ c κs. search rules) (λ c κs. search rules) (λ c κs. search rules) (λ c κs. search rules) returns)

@@ -4,13 +4,13 @@ use Rattle.csexp.proofs.Steps.{chosen, missed, other}
 use Rattle.reading.proofs.items.item_at.Statement.{statement}
 use Rattle.reading.proofs.items.item_at.Tie as tie
 
-returns : tie.Need-returns
+returns : tie.Need-returns-then-triggered-s
 returns c =
-    (chosen _ c.before.before.read-triggered.ensures c.if1.true)
+    (chosen _ c.before.before.read_triggered-triggered.ensures c.if-triggered-s.true)
 
-returns-2 : tie.Need-returns-2
+returns-2 : tie.Need-returns
 returns-2 c =
-    (other _ (missed c.before.before.before.read-triggered.ensures c.before.if1.false)
+    (other _ (missed c.before.before.before.read_triggered-triggered.ensures c.before.if-triggered-s.false)
     c.read_told.ensures)
 
 pub item_at_spec : {M : Type 1} → statement M

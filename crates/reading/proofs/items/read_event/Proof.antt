@@ -6,11 +6,11 @@ use Rattle.reading.proofs.items.read_event.Tie as tie
 
 returns : tie.Need-returns
 returns c =
-    (opened c.before.before.before.before.before.mark.ensures
-    (passed _ c.before.before.before.before.read-receiver.ensures
-    (passed _ c.before.before.before.number.ensures
-    (passed _ c.before.before.read-message.ensures
-    (closed c.before.mark2.ensures)))))
+    (opened c.before.before.before.before.before.mark-a.ensures
+    (passed _ c.before.before.before.before.read_receiver-receiver.ensures
+    (passed _ c.before.before.before.number-sender.ensures
+    (passed _ c.before.before.read_message-m.ensures
+    (closed c.before.mark-e.ensures)))))
 
 pub read_event_spec : {M : Type 1} → statement M
 read_event_spec =

@@ -6,11 +6,11 @@ use Rattle.reading.proofs.items.read_told.Tie as tie
 
 returns : tie.Need-returns
 returns c =
-    (opened c.before.before.before.before.before.before.before.mark.ensures
-    (passed _ c.before.before.before.before.before.before.read-event.ensures
-    (passed _ c.before.before.before.before.before.empty-list.ensures
-    (passed _ c.before.before.before.before.read-fresh.ensures
-    (closed c.before.before.before.mark2.ensures)))))
+    (opened c.before.before.before.before.before.before.before.mark-a.ensures
+    (passed _ c.before.before.before.before.before.before.read_event-m.ensures
+    (passed _ c.before.before.before.before.before.empty_list-c.ensures
+    (passed _ c.before.before.before.before.read_fresh-f.ensures
+    (closed c.before.before.before.mark-e.ensures)))))
 
 pub read_told_spec : {M : Type 1} → statement M
 read_told_spec =

@@ -6,14 +6,14 @@ use Rattle.reading.proofs.items.read_trigger.Tie as tie
 
 returns : tie.Need-returns
 returns c =
-    (opened c.before.before.before.before.before.mark.ensures
-    (passed _ c.before.before.before.before.read-receiver.ensures
-    (passed _ c.before.before.before.number.ensures
-    (passed _ c.before.word.ensures
-    (closed c.mark2.ensures)))))
+    (opened c.before.before.before.before.before.before.mark-a.ensures
+    (passed _ c.before.before.before.before.before.read_receiver-receiver.ensures
+    (passed _ c.before.before.before.before.number-sender.ensures
+    (passed _ c.before.word-t.ensures
+    (closed c.mark.ensures)))))
 
 pub read_trigger_spec : {M : Type 1} → statement M
 read_trigger_spec =
     tie.close
-    (tie.spec (λ c κs. search rules) (λ c κs. search rules) (λ c κs. search rules) (λ c. search rules) (λ c κs. search rules)
+    (tie.spec (λ c κs. search rules) (λ c κs. search rules) (λ c κs. search rules) (λ c κs. search rules)
     (λ c κs. search rules) returns)

@@ -6,11 +6,11 @@ use Rattle.reading.proofs.items.read_triggered.Tie as tie
 
 returns : tie.Need-returns
 returns c =
-    (opened c.before.before.before.before.before.before.before.mark.ensures
-    (passed _ c.before.before.before.before.before.before.read-trigger.ensures
-    (passed _ c.before.before.before.before.before.read-choices.ensures
-    (passed _ c.before.before.before.before.read-fresh.ensures
-    (closed c.before.before.before.mark2.ensures)))))
+    (opened c.before.before.before.before.before.before.before.mark-a.ensures
+    (passed _ c.before.before.before.before.before.before.read_trigger-t.ensures
+    (passed _ c.before.before.before.before.before.read_choices-c.ensures
+    (passed _ c.before.before.before.before.read_fresh-f.ensures
+    (closed c.before.before.before.mark-e.ensures)))))
 
 pub read_triggered_spec : {M : Type 1} → statement M
 read_triggered_spec =

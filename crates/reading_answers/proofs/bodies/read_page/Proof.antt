@@ -6,10 +6,10 @@ use Rattle.reading_answers.proofs.bodies.read_page.Tie as tie
 
 returns : tie.Need-returns
 returns c =
-    (opened c.before.before.before.mark.ensures
-    (passed _ c.before.before.number.ensures
-    (passed _ c.before.number2.ensures
-    (closed c.mark2.ensures))))
+    (opened c.before.before.before.mark-a.ensures
+    (passed _ c.before.before.number-script.ensures
+    (passed _ c.before.number-state.ensures
+    (closed c.mark-e.ensures))))
 
 pub read_page_spec : {M : Type 1} → statement M
 read_page_spec =

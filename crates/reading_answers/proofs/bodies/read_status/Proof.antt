@@ -9,20 +9,20 @@ use Rattle.reading_parts.proofs.Ranges.{narrowed, outside}
 use Rattle.reading_answers.proofs.bodies.read_status.Statement.{statement}
 use Rattle.reading_answers.proofs.bodies.read_status.Tie as tie
 
-returns : tie.Need-returns
+returns : tie.Need-returns-in-Redirects
 returns c =
-    let k = status_in _ Redirects (sym c.before.before.status-kind.ensures ∙ c.enum_told.given.1) (λ e. never (cc)) in
-    narrowed 0 65535 100 505 (omega arith) (omega arith) c.before.before.before.short-number.ensures k.0 k.1
+    let k = status_in _ Redirects (sym c.before.status_kind-kind.ensures ∙ c.in-Redirects.is) (λ e. never (cc)) in
+    narrowed 0 65535 100 505 (omega arith) (omega arith) c.before.before.short_number-n.ensures k.0 k.1
 
-returns-2 : tie.Need-returns-2
+returns-2 : tie.Need-returns-in-Other
 returns-2 c =
-    let k = status_in _ Other (sym c.before.before.status-kind.ensures ∙ c.enum-told2.given.1) (λ e. never (cc)) in
-    narrowed 0 65535 100 505 (omega arith) (omega arith) c.before.before.before.short-number.ensures k.0 k.1
+    let k = status_in _ Other (sym c.before.status_kind-kind.ensures ∙ c.in-Other.is) (λ e. never (cc)) in
+    narrowed 0 65535 100 505 (omega arith) (omega arith) c.before.before.short_number-n.ensures k.0 k.1
 
-returns-3 : tie.Need-returns-3
+returns-3 : tie.Need-returns-in-NoStatus
 returns-3 c =
-    outside 0 65535 100 505 (omega arith) (omega arith) c.before.before.before.short-number.ensures
-    (status-out _ (sym c.before.before.status-kind.ensures ∙ c.enum-told3.given.1)) (omega arith)
+    outside 0 65535 100 505 (omega arith) (omega arith) c.before.before.short_number-n.ensures
+    (status-out _ (sym c.before.status_kind-kind.ensures ∙ c.in-NoStatus.is)) (omega arith)
 
 pub read_status_spec : {M : Type 1} → statement M
 read_status_spec =

@@ -8,30 +8,30 @@ use Rattle.reading_answers.proofs.Heading.{Heading, begun, done, broken, more}
 use Rattle.reading_answers.proofs.headers.more_headers.Statement.{statement}
 use Rattle.reading_answers.proofs.headers.more_headers.Tie as tie
 
-abbrev invariant-loop : tie.invariant-loop
+abbrev invariant-loop : tie.invariant-loop-headers
 invariant-loop s at headers₀ p₀ headers p = Heading s at headers p
 
-abbrev decreases-loop : tie.decreases-loop
+abbrev decreases-loop : tie.decreases-loop-headers
 decreases-loop s at headers₀ p₀ headers p = length s - p
 
-loop-holds : tie.Need-loop-init invariant-loop decreases-loop
+loop-holds : tie.Need-loop-headers-init invariant-loop decreases-loop
 loop-holds c = begun _ _
 
-returns : tie.Need-returns invariant-loop decreases-loop
-returns c = done c.before.before.loop.invariant c.before.mark.ensures c.if1.true
+returns : tie.Need-returns-then-e-s invariant-loop decreases-loop
+returns c = done c.before.before.loop-headers.invariant c.before.mark-e.ensures c.if-e-s.true
 
-returns-2 : tie.Need-returns-2 invariant-loop decreases-loop
+returns-2 : tie.Need-returns-then-s-n invariant-loop decreases-loop
 returns-2 c =
-    broken c.before.before.before.before.loop.invariant c.before.before.before.mark.ensures c.before.before.if1.false
-    c.before.one-header.ensures c.if2.true (omega arith)
+    broken c.before.before.before.before.loop-headers.invariant c.before.before.before.mark-e.ensures c.before.before.if-e-s.false
+    c.before.one_header-h.ensures c.if-s-n.true (omega arith)
 
-loop-less : tie.Need-loop-smaller invariant-loop decreases-loop
-loop-less c = let f = term-forward c.before.before.one-header.ensures c.before.if2.false in omega arith
+loop-less : tie.Need-loop-headers-smaller invariant-loop decreases-loop
+loop-less c = let f = term-forward c.before.before.one_header-h.ensures c.before.if-s-n.false in omega arith
 
-loop-again : tie.Need-loop-preserved invariant-loop decreases-loop
+loop-again : tie.Need-loop-headers-preserved invariant-loop decreases-loop
 loop-again c =
-    more c.before.before.before.before.before.loop.invariant c.before.before.before.before.mark.ensures
-    c.before.before.before.if1.false c.before.before.one-header.ensures
+    more c.before.before.before.before.before.loop-headers.invariant c.before.before.before.before.mark-e.ensures
+    c.before.before.before.if-e-s.false c.before.before.one_header-h.ensures
 
 pub more_headers_spec : {M : Type 1} → statement M
 more_headers_spec =

@@ -5,7 +5,7 @@ use Rattle.reading_answers.proofs.headers.read_headers.Statement.{statement}
 use Rattle.reading_answers.proofs.headers.read_headers.Tie as tie
 
 returns : tie.Need-returns
-returns c = opened c.before.mark.ensures c.more-headers.ensures
+returns c = opened c.before.mark-a.ensures c.more_headers.ensures
 
 pub read_headers_spec : {M : Type 1} → statement M
 read_headers_spec = tie.close (tie.spec (λ c κs. search rules) (λ c κs. search rules) returns)

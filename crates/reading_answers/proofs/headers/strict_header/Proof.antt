@@ -7,19 +7,19 @@ use Rattle.reading_answers.proofs.Heading.{barred, free}
 use Rattle.reading_answers.proofs.headers.strict_header.Statement.{statement}
 use Rattle.reading_answers.proofs.headers.strict_header.Tie as tie
 
-returns : tie.Need-returns
-returns c = barred _ _ c.if1.true (omega arith)
+returns : tie.Need-returns-then-h
+returns c = barred _ _ c.if-h.true (omega arith)
 
-returns-2 : tie.Need-returns-2
+returns-2 : tie.Need-returns
 returns-2 c =
-    free _ c.before.before.before.before.before.before.before.if1.false
+    free _ c.before.before.before.before.before.before.before.before.before.if-h.false
     (mapped _
-    (opened c.before.before.before.before.before.before.mark.ensures
-    (passed _ c.before.before.before.before.word.ensures
-    (passed _ c.before.before.word2.ensures
-    (closed c.before.mark2.ensures)))) refl)
+    (opened c.before.before.before.before.before.before.before.before.mark-a.ensures
+    (passed _ c.before.before.before.before.before.word-b.ensures
+    (passed _ c.before.before.word-t.ensures
+    (closed c.before.mark-e.ensures)))) refl)
 
 pub strict_header_spec : {M : Type 1} → statement M
 strict_header_spec =
     tie.close
-    (tie.spec returns (λ c κs. search rules) (λ c. search rules) (λ c κs. search rules) (λ c. search rules) (λ c κs. search rules) (λ c κs. search rules) returns-2)
+    (tie.spec returns (λ c κs. search rules) (λ c κs. search rules) (λ c κs. search rules) (λ c κs. search rules) returns-2)

@@ -6,14 +6,14 @@ use Rattle.reading_answers.proofs.messages.read_encrypted.Tie as tie
 
 returns : tie.Need-returns
 returns c =
-    (opened c.before.before.before.before.before.before.before.before.before.mark.ensures
-    (passed _ c.before.before.before.before.before.before.before.word.ensures
-    (passed _ c.before.before.before.before.before.before.read-reply.ensures
-    (passed _ c.before.before.before.before.labelled.ensures
-    (closed c.before.before.before.mark2.ensures)))))
+    (opened c.before.before.before.before.before.before.before.before.before.before.before.mark-a.ensures
+    (passed _ c.before.before.before.before.before.before.before.before.word-b.ensures
+    (passed _ c.before.before.before.before.before.before.before.read_reply-r.ensures
+    (passed _ c.before.before.before.before.labelled-key.ensures
+    (closed c.before.before.before.mark-e.ensures)))))
 
 pub read_encrypted_spec : {M : Type 1} → statement M
 read_encrypted_spec =
     tie.close
-    (tie.spec (λ c κs. search rules) (λ c. search rules) (λ c κs. search rules) (λ c κs. search rules) (λ c. search rules)
+    (tie.spec (λ c κs. search rules) (λ c κs. search rules) (λ c κs. search rules) 
     (λ c κs. search rules) (λ c κs. search rules) returns)

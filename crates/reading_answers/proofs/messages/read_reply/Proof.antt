@@ -6,16 +6,16 @@ use Rattle.reading_answers.proofs.messages.read_reply.Tie as tie
 
 returns : tie.Need-returns
 returns c =
-    (opened c.before.before.before.before.before.before.before.before.before.before.mark.ensures
-    (passed _ c.before.before.before.before.before.before.before.before.word.ensures
-    (passed _ c.before.before.before.before.before.before.labelled.ensures
-    (passed _ c.before.before.before.before.before.read-status.ensures
-    (passed _ c.before.before.before.before.read-headers.ensures
-    (passed _ c.before.before.before.read-body.ensures
-    (closed c.before.before.mark2.ensures)))))))
+    (opened c.before.before.before.before.before.before.before.before.before.before.before.before.mark-a.ensures
+    (passed _ c.before.before.before.before.before.before.before.before.before.word-b.ensures
+    (passed _ c.before.before.before.before.before.before.labelled-number.ensures
+    (passed _ c.before.before.before.before.before.read_status-status.ensures
+    (passed _ c.before.before.before.before.read_headers-h.ensures
+    (passed _ c.before.before.before.read_body-c.ensures
+    (closed c.before.before.mark-e.ensures)))))))
 
 pub read_reply_spec : {M : Type 1} → statement M
 read_reply_spec =
     tie.close
-    (tie.spec (λ c κs. search rules) (λ c. search rules) (λ c κs. search rules) (λ c. search rules) (λ c κs. search rules)
+    (tie.spec (λ c κs. search rules) (λ c κs. search rules) (λ c κs. search rules)
     (λ c κs. search rules) (λ c κs. search rules) (λ c κs. search rules) (λ c κs. search rules) returns)

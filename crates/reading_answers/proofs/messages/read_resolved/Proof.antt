@@ -6,15 +6,15 @@ use Rattle.reading_answers.proofs.messages.read_resolved.Tie as tie
 
 returns : tie.Need-returns
 returns c =
-    (opened c.before.before.before.before.before.before.before.mark.ensures
-    (passed _ c.before.before.before.before.before.word.ensures
-    (passed _ c.before.before.before.before.short-number.ensures
-    (passed _ c.before.before.before.short-number2.ensures
-    (passed _ c.before.labelled.ensures
-    (closed c.mark2.ensures))))))
+    (opened c.before.before.before.before.before.before.before.before.before.mark-a.ensures
+    (passed _ c.before.before.before.before.before.before.word-b.ensures
+    (passed _ c.before.before.before.before.before.short_number-host.ensures
+    (passed _ c.before.before.before.before.short_number-address.ensures
+    (passed _ c.before.labelled-number.ensures
+    (closed c.mark-e.ensures))))))
 
 pub read_resolved_spec : {M : Type 1} → statement M
 read_resolved_spec =
     tie.close
-    (tie.spec (λ c κs. search rules) (λ c. search rules) (λ c κs. search rules) (λ c κs. search rules) (λ c κs. search rules)
-    (λ c. search rules) (λ c κs. search rules) (λ c κs. search rules) returns)
+    (tie.spec (λ c κs. search rules) (λ c κs. search rules) (λ c κs. search rules) (λ c κs. search rules)
+    (λ c κs. search rules) (λ c κs. search rules) returns)

@@ -4,11 +4,11 @@ use Rattle.csexp.proofs.Steps.{readers}
 use Rattle.reading_parts.proofs.addresses.read_fragment.Statement.{statement}
 use Rattle.reading_parts.proofs.addresses.read_fragment.Tie as tie
 
-returns : tie.Need-returns
+returns : tie.Need-returns-then-e-s
 returns c =
     search readers depth 16
 
-returns-2 : tie.Need-returns-2
+returns-2 : tie.Need-returns
 returns-2 c =
     search readers depth 16
 

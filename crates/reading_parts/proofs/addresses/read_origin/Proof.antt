@@ -6,10 +6,10 @@ use Rattle.reading_parts.proofs.addresses.read_origin.Tie as tie
 
 returns : tie.Need-returns
 returns c =
-    (opened c.before.before.before.mark.ensures
-    (passed _ c.before.before.short-number.ensures
-    (passed _ c.before.read-protocol.ensures
-    (closed c.mark2.ensures))))
+    (opened c.before.before.before.mark-a.ensures
+    (passed _ c.before.before.short_number-host.ensures
+    (passed _ c.before.read_protocol-scheme.ensures
+    (closed c.mark-e.ensures))))
 
 pub read_origin_spec : {M : Type 1} → statement M
 read_origin_spec =

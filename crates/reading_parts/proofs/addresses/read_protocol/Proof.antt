@@ -4,15 +4,15 @@ use Rattle.csexp.proofs.Steps.{readers}
 use Rattle.reading_parts.proofs.addresses.read_protocol.Statement.{statement}
 use Rattle.reading_parts.proofs.addresses.read_protocol.Tie as tie
 
-returns : tie.Need-returns
+returns : tie.Need-returns-then-p-s
 returns c =
     search readers depth 16
 
-returns-2 : tie.Need-returns-2
+returns-2 : tie.Need-returns
 returns-2 c =
     search readers depth 16
 
 pub read_protocol_spec : {M : Type 1} → statement M
 read_protocol_spec =
     tie.close
-    (tie.spec (λ c. search rules) (λ c κs. search rules) returns (λ c. search rules) (λ c κs. search rules) returns-2)
+    (tie.spec (λ c κs. search rules) returns (λ c κs. search rules) returns-2)

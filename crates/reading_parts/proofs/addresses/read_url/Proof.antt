@@ -6,17 +6,17 @@ use Rattle.reading_parts.proofs.addresses.read_url.Tie as tie
 
 returns : tie.Need-returns
 returns c =
-    (opened c.before.before.before.before.before.before.before.before.mark.ensures
-    (passed _ c.before.before.before.before.before.before.word.ensures
-    (passed _ c.before.before.before.before.before.read-protocol.ensures
-    (passed _ c.before.before.before.before.short-number.ensures
-    (passed _ c.before.before.before.short-number2.ensures
-    (passed _ c.before.before.optional.ensures
-    (passed _ c.before.read-fragment.ensures
-    (closed c.mark2.ensures))))))))
+    (opened c.before.before.before.before.before.before.before.before.before.mark-a.ensures
+    (passed _ c.before.before.before.before.before.before.word-b.ensures
+    (passed _ c.before.before.before.before.before.read_protocol-scheme.ensures
+    (passed _ c.before.before.before.before.short_number-host.ensures
+    (passed _ c.before.before.before.short_number-path.ensures
+    (passed _ c.before.before.optional-parameters.ensures
+    (passed _ c.before.read_fragment-place.ensures
+    (closed c.mark-e.ensures))))))))
 
 pub read_url_spec : {M : Type 1} → statement M
 read_url_spec =
     tie.close
-    (tie.spec (λ c κs. search rules) (λ c. search rules) (λ c κs. search rules) (λ c κs. search rules) (λ c κs. search rules)
+    (tie.spec (λ c κs. search rules) (λ c κs. search rules) (λ c κs. search rules) (λ c κs. search rules)
     (λ c κs. search rules) (λ c κs. search rules) (λ c κs. search rules) (λ c κs. search rules) returns)

@@ -4,27 +4,27 @@ use Rattle.csexp.proofs.Steps.{chosen, missed, other}
 use Rattle.reading_parts.proofs.choosing.read_moving.Statement.{statement}
 use Rattle.reading_parts.proofs.choosing.read_moving.Tie as tie
 
-returns : tie.Need-returns
+returns : tie.Need-returns-then-back-s
 returns c =
-    (chosen _ c.before.before.read_back.ensures c.if1.true)
+    (chosen _ c.before.before.read_back-back.ensures c.if-back-s.true)
 
-returns-2 : tie.Need-returns-2
+returns-2 : tie.Need-returns-then-forward-s
 returns-2 c =
-    (other _ (missed c.before.before.before.before.before.read_back.ensures c.before.before.before.if1.false)
-    (chosen _ c.before.before.read-forward.ensures c.if2.true))
+    (other _ (missed c.before.before.before.before.before.read_back-back.ensures c.before.before.before.if-back-s.false)
+    (chosen _ c.before.before.read_forward-forward.ensures c.if-forward-s.true))
 
-returns-3 : tie.Need-returns-3
+returns-3 : tie.Need-returns-then-close-s
 returns-3 c =
-    (other _ (missed c.before.before.before.before.before.before.before.before.read_back.ensures c.before.before.before.before.before.before.if1.false)
-    (other _ (missed c.before.before.before.before.before.read-forward.ensures c.before.before.before.if2.false)
-    (chosen _ c.before.before.read-close.ensures c.if3.true)))
+    (other _ (missed c.before.before.before.before.before.before.before.before.read_back-back.ensures c.before.before.before.before.before.before.if-back-s.false)
+    (other _ (missed c.before.before.before.before.before.read_forward-forward.ensures c.before.before.before.if-forward-s.false)
+    (chosen _ c.before.before.read_close-close.ensures c.if-close-s.true)))
 
-returns-4 : tie.Need-returns-4
+returns-4 : tie.Need-returns
 returns-4 c =
-    (other _ (missed c.before.before.before.before.before.before.before.before.before.read_back.ensures c.before.before.before.before.before.before.before.if1.false)
-    (other _ (missed c.before.before.before.before.before.before.read-forward.ensures c.before.before.before.before.if2.false)
-    (other _ (missed c.before.before.before.read-close.ensures c.before.if3.false)
-    c.read-post-message.ensures)))
+    (other _ (missed c.before.before.before.before.before.before.before.before.before.read_back-back.ensures c.before.before.before.before.before.before.before.if-back-s.false)
+    (other _ (missed c.before.before.before.before.before.before.read_forward-forward.ensures c.before.before.before.before.if-forward-s.false)
+    (other _ (missed c.before.before.before.read_close-close.ensures c.before.if-close-s.false)
+    c.read_post_message.ensures)))
 
 pub read_moving_spec : {M : Type 1} → statement M
 read_moving_spec =

@@ -8,13 +8,13 @@ use Rattle.reading_parts.proofs.cookies.host_number.Tie as tie
 returns : tie.Need-returns
 unfolding labelled_of
 returns c =
-    (opened c.before.before.before.before.mark.ensures
-    (passed _ c.before.before.word.ensures
-    (passed _ c.before.short-number.ensures
-    (closed c.mark2.ensures))))
+    (opened c.before.before.before.before.before.mark-a.ensures
+    (passed _ c.before.before.word-b.ensures
+    (passed _ c.before.short_number-n.ensures
+    (closed c.mark-e.ensures))))
 
 pub host_number_spec : {M : Type 1} → statement M
 host_number_spec =
     tie.close
-    (tie.spec (λ c κs. search rules) (λ c. search rules) (λ c κs. search rules) (λ c κs. search rules) (λ c κs. search rules)
+    (tie.spec (λ c κs. search rules) (λ c κs. search rules) (λ c κs. search rules) (λ c κs. search rules)
     returns)

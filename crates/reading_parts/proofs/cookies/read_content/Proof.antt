@@ -6,12 +6,12 @@ use Rattle.reading_parts.proofs.cookies.read_content.Tie as tie
 
 returns : tie.Need-returns
 returns c =
-    (opened c.before.before.before.before.before.mark.ensures
-    (passed _ c.before.before.before.before.number.ensures
-    (passed _ c.before.before.before.read-flag.ensures
-    (passed _ c.before.before.read-flag2.ensures
-    (passed _ c.before.read-flag3.ensures
-    (closed c.mark2.ensures))))))
+    (opened c.before.before.before.before.before.mark-a.ensures
+    (passed _ c.before.before.before.before.number-v.ensures
+    (passed _ c.before.before.before.read_flag-secure.ensures
+    (passed _ c.before.before.read_flag-session.ensures
+    (passed _ c.before.read_flag-httponly.ensures
+    (closed c.mark-e.ensures))))))
 
 pub read_content_spec : {M : Type 1} → statement M
 read_content_spec =

@@ -6,10 +6,10 @@ use Rattle.reading_parts.proofs.cookies.read_cookie.Tie as tie
 
 returns : tie.Need-returns
 returns c =
-    (opened c.before.before.before.before.before.mark.ensures
-    (passed _ c.before.before.before.before.read_name.ensures
-    (passed _ c.before.before.read-content.ensures
-    (closed c.before.mark2.ensures))))
+    (opened c.before.before.before.before.before.mark-a.ensures
+    (passed _ c.before.before.before.before.read_name-n.ensures
+    (passed _ c.before.before.read_content-c.ensures
+    (closed c.before.mark-e.ensures))))
 
 pub read_cookie_spec : {M : Type 1} → statement M
 read_cookie_spec =

@@ -5,7 +5,7 @@ use Rattle.reading_parts.proofs.cookies.read_cookies.Statement.{statement}
 use Rattle.reading_parts.proofs.cookies.read_cookies.Tie as tie
 
 returns : tie.Need-returns
-returns c = mapped _ (opened c.before.mark.ensures c.more-cookies.ensures.read) c.more-cookies.ensures.whole
+returns c = mapped _ (opened c.before.mark-a.ensures c.more_cookies.ensures.read) c.more_cookies.ensures.whole
 
 pub read_cookies_spec : {M : Type 1} → statement M
 read_cookies_spec = tie.close (tie.spec (λ c κs. search rules) (λ c κs. search rules) returns)

@@ -6,14 +6,14 @@ use Rattle.reading_parts.proofs.loading.read_iframe.Tie as tie
 
 returns : tie.Need-returns
 returns c =
-    (opened c.before.before.before.before.before.before.mark.ensures
-    (passed _ c.before.before.before.before.word.ensures
-    (passed _ c.before.before.before.read-url.ensures
-    (passed _ c.before.before.read-holder.ensures
-    (closed c.before.mark2.ensures)))))
+    (opened c.before.before.before.before.before.before.before.mark-a.ensures
+    (passed _ c.before.before.before.before.word-b.ensures
+    (passed _ c.before.before.before.read_url-u.ensures
+    (passed _ c.before.before.read_holder-h.ensures
+    (closed c.before.mark-e.ensures)))))
 
 pub read_iframe_spec : {M : Type 1} → statement M
 read_iframe_spec =
     tie.close
-    (tie.spec (λ c κs. search rules) (λ c. search rules) (λ c κs. search rules) (λ c κs. search rules) (λ c κs. search rules)
+    (tie.spec (λ c κs. search rules) (λ c κs. search rules) (λ c κs. search rules) (λ c κs. search rules)
     (λ c κs. search rules) returns)

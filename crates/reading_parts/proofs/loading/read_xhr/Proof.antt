@@ -6,16 +6,16 @@ use Rattle.reading_parts.proofs.loading.read_xhr.Tie as tie
 
 returns : tie.Need-returns
 returns c =
-    (opened c.before.before.before.before.before.before.before.before.mark.ensures
-    (passed _ c.before.before.before.before.before.before.word.ensures
-    (passed _ c.before.before.before.before.before.read-url.ensures
-    (passed _ c.before.before.before.before.read-method.ensures
-    (passed _ c.before.before.before.optional.ensures
-    (passed _ c.before.before.read-matching.ensures
-    (closed c.before.mark2.ensures)))))))
+    (opened c.before.before.before.before.before.before.before.before.before.mark-a.ensures
+    (passed _ c.before.before.before.before.before.before.word-b.ensures
+    (passed _ c.before.before.before.before.before.read_url-u.ensures
+    (passed _ c.before.before.before.before.read_method-m.ensures
+    (passed _ c.before.before.before.optional-data.ensures
+    (passed _ c.before.before.read_matching-x.ensures
+    (closed c.before.mark-e.ensures)))))))
 
 pub read_xhr_spec : {M : Type 1} → statement M
 read_xhr_spec =
     tie.close
-    (tie.spec (λ c κs. search rules) (λ c. search rules) (λ c κs. search rules) (λ c κs. search rules) (λ c κs. search rules)
+    (tie.spec (λ c κs. search rules) (λ c κs. search rules) (λ c κs. search rules) (λ c κs. search rules)
     (λ c κs. search rules) (λ c κs. search rules) (λ c κs. search rules) returns)

@@ -6,13 +6,13 @@ use Rattle.reading_parts.proofs.naming.read_close.Tie as tie
 
 returns : tie.Need-returns
 returns c =
-    (opened c.before.before.before.before.before.mark.ensures
-    (passed _ c.before.before.before.word.ensures
-    (passed _ c.before.before.read-window.ensures
-    (closed c.before.mark2.ensures))))
+    (opened c.before.before.before.before.before.before.mark-a.ensures
+    (passed _ c.before.before.before.word-b.ensures
+    (passed _ c.before.before.read_window-w.ensures
+    (closed c.before.mark-e.ensures))))
 
 pub read_close_spec : {M : Type 1} → statement M
 read_close_spec =
     tie.close
-    (tie.spec (λ c κs. search rules) (λ c. search rules) (λ c κs. search rules) (λ c κs. search rules) (λ c κs. search rules)
+    (tie.spec (λ c κs. search rules) (λ c κs. search rules) (λ c κs. search rules) (λ c κs. search rules)
     returns)

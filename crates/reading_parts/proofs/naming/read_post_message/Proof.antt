@@ -6,15 +6,15 @@ use Rattle.reading_parts.proofs.naming.read_post_message.Tie as tie
 
 returns : tie.Need-returns
 returns c =
-    (opened c.before.before.before.before.before.before.before.mark.ensures
-    (passed _ c.before.before.before.before.before.word.ensures
-    (passed _ c.before.before.before.before.read-window.ensures
-    (passed _ c.before.before.before.number.ensures
-    (passed _ c.before.before.read-addressee.ensures
-    (closed c.before.mark2.ensures))))))
+    (opened c.before.before.before.before.before.before.before.before.mark-a.ensures
+    (passed _ c.before.before.before.before.before.word-b.ensures
+    (passed _ c.before.before.before.before.read_window-w.ensures
+    (passed _ c.before.before.before.number-message.ensures
+    (passed _ c.before.before.read_addressee-to.ensures
+    (closed c.before.mark-e.ensures))))))
 
 pub read_post_message_spec : {M : Type 1} → statement M
 read_post_message_spec =
     tie.close
-    (tie.spec (λ c κs. search rules) (λ c. search rules) (λ c κs. search rules) (λ c κs. search rules) (λ c κs. search rules)
+    (tie.spec (λ c κs. search rules) (λ c κs. search rules) (λ c κs. search rules) (λ c κs. search rules)
     (λ c κs. search rules) (λ c κs. search rules) returns)

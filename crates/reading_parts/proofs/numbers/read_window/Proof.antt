@@ -11,4 +11,4 @@ returns c =
 pub read_window_spec : {M : Type 1} → statement M
 read_window_spec =
     tie.close
-    (tie.spec (λ c. search rules) (λ c κs. search rules) returns)
+    (tie.spec (λ c κs. search rules) returns)

@@ -5,11 +5,11 @@ use Rattle.reading_parts.proofs.Ranges.{in-range, lost}
 use Rattle.reading_parts.proofs.numbers.short_number.Statement.{statement}
 use Rattle.reading_parts.proofs.numbers.short_number.Tie as tie
 
-cast-t11 : tie.Need-overflow-cast-t11
-cast-t11 c = let r = in-range _ _ c.before.before.number.ensures c.before.if1.true in omega arith
+cast-t11 : tie.Need-overflow_cast-result
+cast-t11 c = let r = in-range _ _ c.before.before.number-n.ensures c.before.if-p-s.true in omega arith
 
-returns-2 : tie.Need-returns-2
-returns-2 c = lost c.before.number.ensures c.if1.false (omega arith)
+returns-2 : tie.Need-returns
+returns-2 c = lost c.before.number-n.ensures c.if-p-s.false (omega arith)
 
 pub short_number_spec : {M : Type 1} → statement M
 short_number_spec = tie.close (tie.spec (λ c κs. search rules) cast-t11 (λ c. search rules) returns-2)

@@ -4,19 +4,19 @@ use Rattle.csexp.proofs.Steps.{readers}
 use Rattle.reading_parts.proofs.targets.read_holder.Statement.{statement}
 use Rattle.reading_parts.proofs.targets.read_holder.Tie as tie
 
-returns : tie.Need-returns
+returns : tie.Need-returns-then-p-s
 returns c =
     search readers depth 16
 
-returns-2 : tie.Need-returns-2
+returns-2 : tie.Need-returns-then-q-s
 returns-2 c =
     search readers depth 16
 
-returns-3 : tie.Need-returns-3
+returns-3 : tie.Need-returns
 returns-3 c =
     search readers depth 16
 
 pub read_holder_spec : {M : Type 1} → statement M
 read_holder_spec =
     tie.close
-    (tie.spec (λ c. search rules) (λ c κs. search rules) returns (λ c. search rules) (λ c κs. search rules) returns-2 (λ c κs. search rules) returns-3)
+    (tie.spec (λ c κs. search rules) returns (λ c κs. search rules) returns-2 (λ c κs. search rules) returns-3)

@@ -9,11 +9,11 @@ returns : tie.Need-returns
 returns c =
     carries-then refl (carries-then refl (carries-then refl (carries-then refl (carries-then refl (carries-then refl
     (cleared_carries windows c.before.before.before.before.before.before.before.before.before.before.before.before.clear.ensures)
-    (cleared_carries documents c.before.before.before.before.before.before.before.before.before.before.clear2.ensures))
-    (cleared_carries inputs c.before.before.before.before.before.before.before.before.clear3.ensures))
-    (cleared_carries pending_dns c.before.before.before.before.before.before.clear4.ensures))
-    (cleared_carries pending_requests c.before.before.before.before.clear5.ensures))
-    (cleared_carries session_storage c.before.before.clear6.ensures))
+    (cleared_carries documents c.before.before.before.before.before.before.before.before.before.before.clear-2.ensures))
+    (cleared_carries inputs c.before.before.before.before.before.before.before.before.clear-3.ensures))
+    (cleared_carries pending_dns c.before.before.before.before.before.before.clear-4.ensures))
+    (cleared_carries pending_requests c.before.before.before.before.clear-5.ensures))
+    (cleared_carries session_storage c.before.before.clear-6.ensures))
     (keep-carries cookies c.keep.ensures)
 
 pub empty_spec : {M : Type 1} → statement M

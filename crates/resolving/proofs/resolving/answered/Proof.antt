@@ -9,15 +9,15 @@ use Rattle.resolving.proofs.Questions.{another-host, its_host}
 use Rattle.resolving.proofs.resolving.answered.Statement.{statement}
 use Rattle.resolving.proofs.resolving.answered.Tie as tie
 
-returns : tie.Need-returns
+returns : tie.Need-returns-then-g-h
 returns c =
-    let a = c.before.before.before.before.before.before.before.before.before.before.args in
-    record { performs = λ e. performs_as (resolved a.a (some a.q)) (go_out a.q.url.protocol a.q a.a.address) (its_host a.a a.q (view a.m.now) (fresh_labels a.f) (eq-eqb _ _ c.before.before.before.before.if1.true)) (c.go-out.ensures.performs e) }
+    let a = c.args in
+    record { performs = λ e. performs_as (resolved a.a (some a.q)) (go_out a.q.url.protocol a.q a.a.address) (its_host a.a a.q (view a.m.now) (fresh_labels a.f) (eq-eqb _ _ c.before.before.before.before.if-g-h.true)) (c.go_out.ensures.performs e) }
 
-returns-2 : tie.Need-returns-2
+returns-2 : tie.Need-returns
 returns-2 c =
-    let a = c.before.before.before.before.before.before.before.args in
-    record { performs = λ e. refuses (resolved a.a (some a.q)) a.f (another-host a.a a.q (view a.m.now) (fresh_labels a.f) (ne_eqb _ _ c.before.if1.false)) c.refuse.ensures }
+    let a = c.args in
+    record { performs = λ e. refuses (resolved a.a (some a.q)) a.f (another-host a.a a.q (view a.m.now) (fresh_labels a.f) (ne_eqb _ _ c.before.if-g-h.false)) c.refuse.ensures }
 
 pub answered_spec : {M : Type 1} → statement M
 answered_spec = tie.close (tie.spec (λ c κs. tt) returns (λ c κs. tt) returns-2)

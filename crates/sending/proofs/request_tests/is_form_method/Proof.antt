@@ -4,4 +4,4 @@ use Rattle.sending.proofs.request_tests.is_form_method.Statement.{statement}
 use Rattle.sending.proofs.request_tests.is_form_method.Tie as tie
 
 pub is_form_method_spec : {M : Type 1} → statement M
-is_form_method_spec = tie.close (tie.spec (λ c. search rules) (λ c. search rules) (λ c. search rules) (λ c. search rules) (λ c. search rules) (λ c. search rules) (λ c. search rules) (λ c. search rules) (λ c. rw c.enum_told.given.1) (λ c. rw c.enum-told2.given.1) (λ c. rw c.enum-told3.given.1) (λ c. rw c.enum-told4.given.1) (λ c. rw c.enum-told5.given.1) (λ c. rw c.enum-told6.given.1) (λ c. rw c.enum-told7.given.1) (λ c. rw c.enum-told8.given.1))
+is_form_method_spec = tie.close (tie.spec (λ c. search rules) (λ c. search rules) (λ c. search rules) (λ c. search rules) (λ c. search rules) (λ c. search rules) (λ c. search rules) (λ c. search rules) (λ c. rw c.in-Get.is) (λ c. rw c.in-Head.is) (λ c. rw c.in-Post.is) (λ c. rw c.in-Put.is) (λ c. rw c.in-Delete.is) (λ c. rw c.in-Connect.is) (λ c. rw c.in-Options.is) (λ c. rw c.in-Trace.is))

@@ -6,8 +6,8 @@ use Rattle.stepping.proofs.fresh.absent.Tie as tie
 
 returns : tie.Need-returns
 returns c =
-    let a = c.before.before.before.before.before.before.before.before.before.before.before.args in
-    rw (c.both5.ensures, c.before.both4.ensures, c.before.before.clean6.ensures, c.before.before.before.clean5.ensures, c.before.before.before.before.both3.ensures, c.before.before.before.before.before.clean4.ensures, c.before.before.before.before.before.before.both2.ensures, c.before.before.before.before.before.before.before.clean3.ensures, c.before.before.before.before.before.before.before.before.both.ensures, c.before.before.before.before.before.before.before.before.before.clean2.ensures, c.before.before.before.before.before.before.before.before.before.before.clean.ensures)
+    let a = c.args in
+    rw (c.both-2.ensures, c.before.both.ensures, c.before.before.clean-6.ensures, c.before.before.before.clean-5.ensures, c.before.before.before.before.both-stored.ensures, c.before.before.before.before.before.clean-4.ensures, c.before.before.before.before.before.before.both-told.ensures, c.before.before.before.before.before.before.before.clean-3.ensures, c.before.before.before.before.before.before.before.before.both-waits.ensures, c.before.before.before.before.before.before.before.before.before.clean-2.ensures, c.before.before.before.before.before.before.before.before.before.before.clean.ensures)
     (fresh-tables a.l (view a.m.now))
 
 pub absent_spec : {M : Type 1} → statement M

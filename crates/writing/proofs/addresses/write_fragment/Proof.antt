@@ -3,11 +3,11 @@ use borrow.Author.Rules.{rules}
 use Rattle.writing.proofs.addresses.write_fragment.Statement.{statement}
 use Rattle.writing.proofs.addresses.write_fragment.Tie as tie
 
-returns : tie.Need-returns
-returns c = rw c.before.before.before.before.enum_told.given.1 c.before.before.empty-list.ensures
+returns : tie.Need-returns-in-Absent
+returns c = rw c.before.before.before.before.in-Absent.is c.before.before.empty_list.ensures
 
-returns-2 : tie.Need-returns-2
-returns-2 c = rw c.before.before.before.before.before.fragment.given.1 c.before.before.number.ensures
+returns-2 : tie.Need-returns-in-Named
+returns-2 c = rw c.before.before.before.before.in-Named.is c.before.before.number.ensures
 
 pub write_fragment_spec : {M : Type 1} → statement M
 write_fragment_spec =

@@ -3,14 +3,14 @@ use borrow.Author.Rules.{rules}
 use Rattle.writing.proofs.addresses.write_protocol.Statement.{statement}
 use Rattle.writing.proofs.addresses.write_protocol.Tie as tie
 
-returns : tie.Need-returns
-returns c = rw c.before.before.before.before.before.enum_told.given.1 c.before.before.word.ensures
+returns : tie.Need-returns-in-Plain
+returns c = rw c.before.before.before.before.before.before.in-Plain.is c.before.before.word.ensures
 
-returns-2 : tie.Need-returns-2
-returns-2 c = rw c.before.before.before.before.before.enum-told2.given.1 c.before.before.word2.ensures
+returns-2 : tie.Need-returns-in-Secure
+returns-2 c = rw c.before.before.before.before.before.before.in-Secure.is c.before.before.word-in-Secure.ensures
 
 pub write_protocol_spec : {M : Type 1} → statement M
 write_protocol_spec =
     tie.close
-    (tie.spec (λ c. search rules) (λ c. search rules) (λ c κs. search rules) (λ c. search rules) (λ c. search rules)
+    (tie.spec (λ c. search rules) (λ c κs. search rules) (λ c. search rules) 
     (λ c κs. search rules) (λ c. search rules) returns (λ c. search rules) returns-2)

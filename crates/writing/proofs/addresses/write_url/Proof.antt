@@ -13,17 +13,17 @@ returns c =
     let c₅ = c₄.before.before.before.before.before in
     let c₆ = c₅.before.before.before.before.before in
     let c₇ = c₆.before.before.before.before in
-    (opened-word c₇.open-word.ensures
-    (passed c₆.write-protocol.ensures
-    (passed c₅.number.ensures
-    (passed c₄.number2.ensures
-    (passed c₃.optional.ensures
-    (passed c₂.write-fragment.ensures
-    (closed c₁.close-list.ensures)))))))
+    (opened-word c₇.open_word-a.ensures
+    (passed c₆.write_protocol-b.ensures
+    (passed c₅.number-c.ensures
+    (passed c₄.number-d.ensures
+    (passed c₃.optional-e.ensures
+    (passed c₂.write_fragment-f.ensures
+    (closed c₁.close_list.ensures)))))))
 
 pub write_url_spec : {M : Type 1} → statement M
 write_url_spec =
     tie.close
-    (tie.spec (λ c. search rules) (λ c κs. search rules) (λ c κs. search rules) (λ c. search rules) (λ c κs. search rules)
+    (tie.spec (λ c κs. search rules) (λ c κs. search rules) (λ c. search rules) (λ c κs. search rules)
     (λ c. search rules) (λ c κs. search rules) (λ c κs. search rules) (λ c κs. search rules) (λ c κs. search rules)
     (λ c. search rules) returns)

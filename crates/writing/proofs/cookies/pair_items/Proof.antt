@@ -12,31 +12,31 @@ use Rattle.writing.proofs.CookieRows.{sixty_four}
 use Rattle.writing.proofs.cookies.pair_items.Statement.{statement}
 use Rattle.writing.proofs.cookies.pair_items.Tie as tie
 
-abbrev invariant-loop : tie.invariant-loop
+abbrev invariant-loop : tie.invariant-loop-i
 invariant-loop out₀ at rows count p₀ i₀ out p i = (i ≤ 64) × (i ≤ count) × Items (each pair_term (take i rows)) out₀ at out p × (length out ≡ length out₀)
 
-abbrev decreases-loop : tie.decreases-loop
+abbrev decreases-loop : tie.decreases-loop-i
 decreases-loop out₀ at rows count p₀ i₀ out p i = 64 - i
 
-loop-holds : tie.Need-loop-init invariant-loop decreases-loop
+loop-holds : tie.Need-loop-i-init invariant-loop decreases-loop
 loop-holds c = (omega arith, omega arith, items-none pair_term _ _ (omega arith), search rules)
 
-returns : tie.Need-returns invariant-loop decreases-loop
-returns c = let l = c.before.before.loop in items-all pair_term _ _ _ l.invariant.1 (omega arith) l.invariant.2
+returns : tie.Need-returns-then-count-i invariant-loop decreases-loop
+returns c = let l = c.before.before.loop-i in items-all pair_term _ _ _ l.invariant.1 (omega arith) l.invariant.2
 
-loop-again : tie.Need-loop-preserved invariant-loop decreases-loop
+loop-again : tie.Need-loop-i-preserved invariant-loop decreases-loop
 loop-again c =
     let start = c.before.before.before.before.before.before.before.before.before.before in
-    let l = c.before.before.before.before.before.before.before.loop in
-    let w = c.before.before.write-pair in
-    let n : length start.args.jar.rows ≡ 64 = sixty_four start.args.jar _ start.well-formed.1.1.0 in
-    (omega arith, omega arith, items-one pair_term start.args.jar.rows l.i _ (omega arith) l.invariant.2 w.ensures, w.auto.0 ∙ l.invariant.3)
+    let l = c.before.before.before.before.before.before.before.loop-i in
+    let w = c.before.before.write_pair-p in
+    let n : length start.args.jar.rows ≡ 64 = sixty_four start.args.jar _ start.well_formed.1.1.0 in
+    (omega arith, omega arith, items-one pair_term start.args.jar.rows l.i _ (omega arith) l.invariant.2 w.ensures, w.auto.out ∙ l.invariant.3)
 
-returns-2 : tie.Need-returns-2 invariant-loop decreases-loop
+returns-2 : tie.Need-returns invariant-loop decreases-loop
 returns-2 c =
-    let l = c.before.loop in
+    let l = c.before.loop-i in
     let start = c.before.before.before.before in
-    let n : length start.args.jar.rows ≡ 64 = sixty_four start.args.jar _ start.well-formed.1.1.0 in
+    let n : length start.args.jar.rows ≡ 64 = sixty_four start.args.jar _ start.well_formed.1.1.0 in
     items-full pair_term _ _ _ l.invariant.1 (omega arith) l.invariant.2
 
 pub pair_items_spec : {M : Type 1} → statement M

@@ -11,13 +11,13 @@ returns c =
     let c₃ = c₂.before.before.before.before in
     let c₄ = c₃.before.before.before.before in
     let c₅ = c₄.before.before.before.before in
-    (opened-word c₅.open-word.ensures
-    (passed (opened c₄.open-list.ensures
-    (ended c₃.pair-items.ensures c₂.close-list.ensures))
-    (closed c₁.close-list2.ensures)))
+    (opened-word c₅.open_word-a.ensures
+    (passed (opened c₄.open_list-b.ensures
+    (ended c₃.pair_items-c.ensures c₂.close_list-d.ensures))
+    (closed c₁.close_list.ensures)))
 
 pub write_cookies_spec : {M : Type 1} → statement M
 write_cookies_spec =
     tie.close
-    (tie.spec (λ c. search rules) (λ c κs. search rules) (λ c κs. search rules) (λ c κs. search rules) (λ c κs. search rules)
+    (tie.spec (λ c κs. search rules) (λ c κs. search rules) (λ c κs. search rules) (λ c κs. search rules)
     (λ c κs. search rules) (λ c. search rules) returns)

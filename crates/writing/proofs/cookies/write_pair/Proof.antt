@@ -10,10 +10,10 @@ returns c =
     let c₂ = c₁.before.before.before.before in
     let c₃ = c₂.before.before.before.before in
     let c₄ = c₃.before.before.before.before in
-    (opened c₄.open-list.ensures
-    (passed c₃.write-name.ensures
-    (passed c₂.number.ensures
-    (closed c₁.close-list.ensures))))
+    (opened c₄.open_list-a.ensures
+    (passed c₃.write_name-b.ensures
+    (passed c₂.number-c.ensures
+    (closed c₁.close_list.ensures))))
 
 pub write_pair_spec : {M : Type 1} → statement M
 write_pair_spec =

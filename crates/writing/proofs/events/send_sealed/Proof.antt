@@ -11,11 +11,11 @@ returns c =
     let c₃ = c₂.before.before.before.before in
     let c₄ = c₃.before.before.before.before in
     let c₅ = c₄.before.before.before.before.before in
-    (opened c₅.open-list.ensures
-    (passed c₄.number.ensures
-    (passed c₃.number2.ensures
-    (passed c₂.write-sealed.ensures
-    (closed c₁.close-list.ensures)))))
+    (opened c₅.open_list-a.ensures
+    (passed c₄.number-b.ensures
+    (passed c₃.number-c.ensures
+    (passed c₂.write_sealed-d.ensures
+    (closed c₁.close_list.ensures)))))
 
 pub send_sealed_spec : {M : Type 1} → statement M
 send_sealed_spec =

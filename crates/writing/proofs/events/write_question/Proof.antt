@@ -10,13 +10,13 @@ returns c =
     let c₂ = c₁.before.before.before.before in
     let c₃ = c₂.before.before.before.before.before in
     let c₄ = c₃.before.before.before.before.before in
-    (opened-word c₄.open-word.ensures
-    (passed c₃.number.ensures
-    (passed c₂.labelled.ensures
-    (closed c₁.close-list.ensures))))
+    (opened-word c₄.before.open_word-a.ensures
+    (passed c₃.before.number-b.ensures
+    (passed c₂.labelled-c.ensures
+    (closed c₁.close_list.ensures))))
 
 pub write_question_spec : {M : Type 1} → statement M
 write_question_spec =
     tie.close
-    (tie.spec (λ c. search rules) (λ c κs. search rules) (λ c. search rules) (λ c κs. search rules) (λ c. search rules)
+    (tie.spec (λ c κs. search rules) (λ c. search rules) (λ c κs. search rules) 
     (λ c κs. search rules) (λ c κs. search rules) (λ c. search rules) returns)

@@ -6,20 +6,20 @@ use Rattle.shapes.specs.Events.{event_of}
 use Rattle.writing.proofs.events.write_sent.Statement.{statement}
 use Rattle.writing.proofs.events.write_sent.Tie as tie
 
-returns : tie.Need-returns
-returns c = rw c.enum_told.given.1 (puts_none _ _ (omega arith))
+returns : tie.Need-returns-in-Silence
+returns c = rw c.in-Silence.is (puts_none _ _ (omega arith))
 
-returns-2 : tie.Need-returns-2
+returns-2 : tie.Need-returns-in-Resolve
 unfolding event_of
-returns-2 c = rw c.before.before.before.before.before.sent.given.1 c.before.before.send-question.ensures.puts
+returns-2 c = rw c.before.before.before.before.in-Resolve.is c.before.before.send_question.ensures.puts
 
-returns-3 : tie.Need-returns-3
+returns-3 : tie.Need-returns-in-Open
 unfolding event_of
-returns-3 c = rw c.before.before.before.before.before.sent2.given.1 c.before.before.send-open.ensures.puts
+returns-3 c = rw c.before.before.before.before.in-Open.is c.before.before.send_open.ensures.puts
 
-returns-4 : tie.Need-returns-4
+returns-4 : tie.Need-returns-in-Sealed
 unfolding event_of
-returns-4 c = rw c.before.before.before.before.before.sent3.given.1 c.before.before.send-sealed.ensures.puts
+returns-4 c = rw c.before.before.before.before.in-Sealed.is c.before.before.send_sealed.ensures.puts
 
 pub write_sent_spec : {M : Type 1} → statement M
 write_sent_spec =

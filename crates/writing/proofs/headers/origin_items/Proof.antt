@@ -5,14 +5,14 @@ use Rattle.csexp.proofs.write.Steps.{absent}
 use Rattle.writing.proofs.headers.origin_items.Statement.{statement}
 use Rattle.writing.proofs.headers.origin_items.Tie as tie
 
-returns : tie.Need-returns
-returns c = rw c.enum_told.given.1 (absent _ _ (omega arith))
+returns : tie.Need-returns-in-Unsent
+returns c = rw c.in-Unsent.is (absent _ _ (omega arith))
 
-returns-2 : tie.Need-returns-2
-returns-2 c = rw c.before.before.before.before.enum-told2.given.1 c.before.before.write-null-origin.ensures
+returns-2 : tie.Need-returns-in-Null
+returns-2 c = rw c.before.before.before.before.in-Null.is c.before.before.write_null_origin.ensures
 
-returns-3 : tie.Need-returns-3
-returns-3 c = rw c.before.before.before.before.before.origin.given.1 c.before.before.write-known-origin.ensures
+returns-3 : tie.Need-returns-in-From
+returns-3 c = rw c.before.before.before.before.in-From.is c.before.before.write_known_origin.ensures
 
 pub origin_items_spec : {M : Type 1} → statement M
 origin_items_spec =

@@ -11,10 +11,10 @@ returns c =
     let c₃ = c₂.before.before.before.before in
     let c₄ = c₃.before.before.before.before in
     let c₅ = c₄.before.before.before.before in
-    (opened c₅.open-list.ensures
-    (passed c₄.write-cookies.ensures
-    (spliced c₃.origin-items.ensures
-    (ended c₂.referer-items.ensures c₁.close-list.ensures))))
+    (opened c₅.open_list-a.ensures
+    (passed c₄.write_cookies-b.ensures
+    (spliced c₃.origin_items-c.ensures
+    (ended c₂.referer_items-d.ensures c₁.close_list.ensures))))
 
 pub write_headers_spec : {M : Type 1} → statement M
 write_headers_spec =

@@ -9,12 +9,12 @@ returns c =
     let c₁ = c.before.before in
     let c₂ = c₁.before.before.before.before in
     let c₃ = c₂.before.before.before.before.before in
-    (single (opened-word c₃.open-word.ensures
-    (passed c₂.word.ensures
-    (closed c₁.close-list.ensures))))
+    (single (opened-word c₃.before.open_word-a.ensures
+    (passed c₂.word-b.ensures
+    (closed c₁.close_list.ensures))))
 
 pub write_null_origin_spec : {M : Type 1} → statement M
 write_null_origin_spec =
     tie.close
-    (tie.spec (λ c. search rules) (λ c κs. search rules) (λ c. search rules) (λ c κs. search rules) (λ c κs. search rules)
+    (tie.spec (λ c κs. search rules) (λ c κs. search rules) (λ c κs. search rules)
     (λ c. search rules) returns)

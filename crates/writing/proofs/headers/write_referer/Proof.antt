@@ -9,11 +9,11 @@ returns c =
     let c₁ = c.before.before in
     let c₂ = c₁.before.before.before.before in
     let c₃ = c₂.before.before.before.before in
-    (single (opened-word c₃.open-word.ensures
-    (passed c₂.write-url.ensures
-    (closed c₁.close-list.ensures))))
+    (single (opened-word c₃.open_word-a.ensures
+    (passed c₂.write_url-b.ensures
+    (closed c₁.close_list.ensures))))
 
 pub write_referer_spec : {M : Type 1} → statement M
 write_referer_spec =
     tie.close
-    (tie.spec (λ c. search rules) (λ c κs. search rules) (λ c κs. search rules) (λ c κs. search rules) (λ c. search rules) returns)
+    (tie.spec (λ c κs. search rules) (λ c κs. search rules) (λ c κs. search rules) (λ c. search rules) returns)

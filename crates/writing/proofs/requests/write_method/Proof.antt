@@ -7,14 +7,14 @@ use Rattle.csexp.proofs.write.Steps.{writes_as}
 use Rattle.writing.proofs.requests.write_method.Statement.{statement}
 use Rattle.writing.proofs.requests.write_method.Tie as tie
 
-array-share-prefix-bytes : tie.Need-array-share-prefix-bytes
-array-share-prefix-bytes c = c.before.before.spelling-of.ensures.within
+array-share-prefix-bytes : tie.Need-slice_bounds-bytes-end
+array-share-prefix-bytes c = c.before.before.spelling_of-row.ensures.within
 
-slice-aggregate-word : tie.Need-slice-aggregate-word
-slice-aggregate-word c = sym (length-take-le _ _ c.before.before.before.spelling-of.ensures.within)
+slice-aggregate-word : tie.Need-slice_bounds-word-end
+slice-aggregate-word c = sym (length-take-le _ _ c.before.before.before.spelling_of-row.ensures.within)
 
 returns : tie.Need-returns
-returns c = writes_as (ap atom c.before.before.before.before.before.before.spelling-of.ensures.exactly) c.before.before.word.ensures
+returns c = writes_as (ap atom c.before.before.before.before.before.before.spelling_of-row.ensures.exactly) c.before.before.word.ensures
 
 pub write_method_spec : {M : Type 1} → statement M
 write_method_spec =

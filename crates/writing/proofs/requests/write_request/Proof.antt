@@ -5,7 +5,7 @@ use Rattle.csexp.proofs.write.Steps.{closed, opened-word, passed}
 use Rattle.writing.proofs.requests.write_request.Statement.{statement}
 use Rattle.writing.proofs.requests.write_request.Tie as tie
 
-same_length : tie.Need-same-length
+same_length : tie.Need-shape_of-out
 same_length c =
     let c₁ = c.before.before in
     let c₂ = c₁.before.before.before.before in
@@ -16,15 +16,15 @@ same_length c =
     let c₇ = c₆.before.before.before.before.before in
     let c₈ = c₇.before.before.before.before in
     let c₉ = c₈.before.before.before.before.before in
-    c₁.close-list.auto.0
-    ∙ c₂.optional2.auto.0
-    ∙ c₃.write-headers.auto.0
-    ∙ c₄.optional.auto.0
-    ∙ c₅.number2.auto.0
-    ∙ c₆.number.auto.0
-    ∙ c₇.write-method.auto.0
-    ∙ c₈.labelled.auto.0
-    ∙ c₉.open-word.auto.0
+    c₁.close_list.auto.out
+    ∙ c₂.optional-h.auto.out
+    ∙ c₃.write_headers-g.auto.out
+    ∙ c₄.optional-f.auto.out
+    ∙ c₅.number-e.auto.out
+    ∙ c₆.number-d.auto.out
+    ∙ c₇.write_method-c.auto.out
+    ∙ c₈.labelled-b.auto.out
+    ∙ c₉.before.open_word-a.auto.out
 
 returns : tie.Need-returns
 returns c =
@@ -37,19 +37,19 @@ returns c =
     let c₇ = c₆.before.before.before.before.before in
     let c₈ = c₇.before.before.before.before in
     let c₉ = c₈.before.before.before.before.before in
-    (opened-word c₉.open-word.ensures
-    (passed c₈.labelled.ensures
-    (passed c₇.write-method.ensures
-    (passed c₆.number.ensures
-    (passed c₅.number2.ensures
-    (passed c₄.optional.ensures
-    (passed c₃.write-headers.ensures
-    (passed c₂.optional2.ensures
-    (closed c₁.close-list.ensures)))))))))
+    (opened-word c₉.before.open_word-a.ensures
+    (passed c₈.labelled-b.ensures
+    (passed c₇.write_method-c.ensures
+    (passed c₆.number-d.ensures
+    (passed c₅.number-e.ensures
+    (passed c₄.optional-f.ensures
+    (passed c₃.write_headers-g.ensures
+    (passed c₂.optional-h.ensures
+    (closed c₁.close_list.ensures)))))))))
 
 pub write_request_spec : {M : Type 1} → statement M
 write_request_spec =
     tie.close
-    (tie.spec (λ c. search rules) (λ c κs. search rules) (λ c. search rules) (λ c κs. search rules) (λ c κs. search rules)
+    (tie.spec (λ c κs. search rules) (λ c κs. search rules) (λ c κs. search rules)
     (λ c. search rules) (λ c κs. search rules) (λ c. search rules) (λ c κs. search rules) (λ c κs. search rules)
     (λ c κs. search rules) (λ c κs. search rules) (λ c κs. search rules) same_length returns)

@@ -13,17 +13,17 @@ returns c =
     let c₅ = c₄.before.before.before.before.before in
     let c₆ = c₅.before.before.before.before in
     let c₇ = c₆.before.before.before.before in
-    (opened-word c₇.open-word.ensures
-    (passed (opened c₆.open-list.ensures
-    (passed c₅.write-request.ensures
-    (passed c₄.labelled.ensures
-    (closed c₃.close-list.ensures))))
-    (passed c₂.labelled2.ensures
-    (closed c₁.close-list2.ensures))))
+    (opened-word c₇.before.before.open_word-a.ensures
+    (passed (opened c₆.before.before.open_list-b.ensures
+    (passed c₅.before.before.write_request-c.ensures
+    (passed c₄.before.labelled-d.ensures
+    (closed c₃.before.close_list-e.ensures))))
+    (passed c₂.labelled-f.ensures
+    (closed c₁.close_list.ensures))))
 
 pub write_sealed_spec : {M : Type 1} → statement M
 write_sealed_spec =
     tie.close
-    (tie.spec (λ c. search rules) (λ c κs. search rules) (λ c κs. search rules) (λ c κs. search rules) (λ c. search rules)
-    (λ c κs. search rules) (λ c κs. search rules) (λ c. search rules) (λ c. search rules) (λ c κs. search rules)
+    (tie.spec (λ c κs. search rules) (λ c κs. search rules) (λ c κs. search rules) 
+    (λ c κs. search rules) (λ c κs. search rules) (λ c. search rules) (λ c κs. search rules)
     (λ c κs. search rules) (λ c. search rules) returns)
