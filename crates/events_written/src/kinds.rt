@@ -1,19 +1,25 @@
 // Each kind of message, and the largest.
 use crate::{given, say};
+use std::io;
 use types::{
     Address, Data, Fragment, Host, KeyNumber, Method, Origin, OriginHeader, Parameters, Path,
     Protocol, Referrer, Request, RequestNumber, Sent, Url,
 };
 
 // The two lines of 01's example run.
-pub fn example() {
-    say::event(b"question", given::question(), given::bare(Method::Get));
-    say::event(b"request", given::open(), given::bare(Method::Get));
+pub fn example(rt: &impl Print) -> io::Result<()> {
+    say::event(rt, b"question", given::question(), given::bare(Method::Get))?;
+    say::event(rt, b"request", given::open(), given::bare(Method::Get))
 }
 
-pub fn sealed() {
-    say::event(b"under a key", given::sealed(), given::bare(Method::Get));
-    say::event(b"nothing", Sent::Silence, given::bare(Method::Get));
+pub fn sealed(rt: &impl Print) -> io::Result<()> {
+    say::event(
+        rt,
+        b"under a key",
+        given::sealed(),
+        given::bare(Method::Get),
+    )?;
+    say::event(rt, b"nothing", Sent::Silence, given::bare(Method::Get))
 }
 
 // The largest event: 64 cookies, each name prefixed, each number as wide as it can be.
@@ -41,10 +47,10 @@ fn largest(count: usize) -> Request {
     }
 }
 
-pub fn full() {
+pub fn full(rt: &impl Print) -> io::Result<()> {
     let sent = Sent::Sealed(Address(65535), KeyNumber(4294967295));
-    say::event(b"largest event", sent, largest(64));
-    say::length(b"length of the largest event", sent, largest(64));
-    say::length(b"a count beyond 64 is read as 64", sent, largest(65));
-    say::length(b"63 cookies", sent, largest(63));
+    say::event(rt, b"largest event", sent, largest(64))?;
+    say::length(rt, b"length of the largest event", sent, largest(64))?;
+    say::length(rt, b"a count beyond 64 is read as 64", sent, largest(65))?;
+    say::length(rt, b"63 cookies", sent, largest(63))
 }

@@ -1,14 +1,14 @@
 // A line of output: the name of a case, and what was written.
 use csexp::write::Written;
-use libc::STDOUT_FILENO;
+use std::io;
 use types::{Request, Sent};
 use writing::{length_of, write_event};
 
-fn line(name: &[u8], answer: &[u8]) {
-    io::write_all(STDOUT_FILENO, name);
-    io::write_all(STDOUT_FILENO, b": ");
-    io::write_all(STDOUT_FILENO, answer);
-    io::write_all(STDOUT_FILENO, b"\n");
+fn line(rt: &impl Print, name: &[u8], answer: &[u8]) -> io::Result<()> {
+    rt.write_all(name)?;
+    rt.write_all(b": ")?;
+    rt.write_all(answer)?;
+    rt.write_all(b"\n")
 }
 
 // The first n bytes of s, or all where there are fewer.
@@ -17,37 +17,39 @@ fn start(s: &[u8], n: usize) -> &[u8] {
 }
 
 // An event alone, in a buffer that has room for every event.
-pub fn event(name: &[u8], sent: Sent, request: Request) {
+pub fn event(rt: &impl Print, name: &[u8], sent: Sent, request: Request) -> io::Result<()> {
     let mut buffer = [0u8; 4096];
     let answer = write_event(&mut buffer, 0, sent, request);
     match answer {
-        Written::Bytes(n) => line(name, start(&buffer, n)),
-        Written::NoRoom => line(name, b"no room"),
+        Written::Bytes(n) => line(rt, name, start(&buffer, n)),
+        Written::NoRoom => line(rt, name, b"no room"),
     }
 }
 
 // How many bytes an event has.
-pub fn length(name: &[u8], sent: Sent, request: Request) {
-    io::write_all(STDOUT_FILENO, name);
-    io::write_all(STDOUT_FILENO, b": ");
-    io::print_decimal(STDOUT_FILENO, length_of(sent, request) as u64);
-    io::write_all(STDOUT_FILENO, b"\n");
+pub fn length(rt: &impl Print, name: &[u8], sent: Sent, request: Request) -> io::Result<()> {
+    let n = length_of(sent, request);
+    rt.write_all(name)?;
+    println!(rt; ": {n}")
 }
 
 // A buffer as it is left, behind the answer.
-pub fn buffer(name: &[u8], out: &mut [u8], place: usize, sent: Sent, request: Request) {
+pub fn buffer(
+    rt: &impl Print,
+    name: &[u8],
+    out: &mut [u8],
+    place: usize,
+    sent: Sent,
+    request: Request,
+) -> io::Result<()> {
     let answer = write_event(out, place, sent, request);
-    io::write_all(STDOUT_FILENO, name);
-    io::write_all(STDOUT_FILENO, b": ");
+    rt.write_all(name)?;
+    rt.write_all(b": ")?;
     match answer {
-        Written::Bytes(n) => {
-            io::print_decimal(STDOUT_FILENO, n as u64);
-        }
-        Written::NoRoom => {
-            io::write_all(STDOUT_FILENO, b"no room");
-        }
+        Written::Bytes(n) => print!(rt; "{n}")?,
+        Written::NoRoom => rt.write_all(b"no room")?,
     }
-    io::write_all(STDOUT_FILENO, b" [");
-    io::write_all(STDOUT_FILENO, out);
-    io::write_all(STDOUT_FILENO, b"]\n");
+    rt.write_all(b" [")?;
+    rt.write_all(out)?;
+    rt.write_all(b"]\n")
 }

@@ -1,4 +1,6 @@
-// The product's face for C: the step on text, and a memory made empty, under names that C can call (include/ingleskip.h). No other crate calls these.
+// The product's face for C: the step on text, and a memory made empty, with numbers alone. `ingleskip_c` hands both to C under these names (include/ingleskip.h).
+#![tactic(auto)]
+
 ghost use Rattle.std.specs.Prelude.{◌≡◌};
 ghost use Rattle.wim.specs.Step.{empty_browser};
 ghost use Rattle.browser.specs.View.{browser};
@@ -7,16 +9,14 @@ ghost use Rattle.ingleskip.specs.Steps.{Steps};
 use memory::Memory;
 
 // Whatever the memory held.
-#[unsafe(no_mangle)]
-pub extern "C" fn ingleskip_empty(m: &mut Memory)
+pub fn ingleskip_empty(m: &mut Memory)
     ensures { browser m.new ≡ empty_browser }
 {
     rehearsal::make_empty(m);
 }
 
 // The verdict's number: 0, and how many bytes of the buffer were written; or that of the refusal, and 0.
-#[unsafe(no_mangle)]
-pub extern "C" fn ingleskip_step(
+pub fn ingleskip_step(
     text: &[u8],
     m: &mut Memory,
     out: &mut [u8],

@@ -2,7 +2,9 @@
 --     one-result                       any two results that it allows are the same
 --     over-is-run · stopped-is-run     where nothing follows and the run ended, the lines are the whole run
 --     play-comes                       a run comes from the browser before to the one behind
+--     either_way                       where a read or a write failed, it holds as well
 --     written-within · reasons         the lines lie within the buffer, and what was played within the text; why no more was played, so that a caller gets on: with more text, or with room for lines
+use Rattle.std.specs.Prelude.{Result as Outcome, Ok, Err, OnErr}
 use mathlib.Core.Path.{◌≡◌, refl, sym, ap, ap₂, subst, ◌∙◌}
 use mathlib.Core.Bool.{Bool, true, false, cond}
 use mathlib.Core.List.{List, [], ◌∷◌, ◌++◌, append-nil}
@@ -73,6 +75,10 @@ portion_comes (suc k) s last room b = go (next_in s last room) (λ n m c. portio
 pub play-comes : {text : List ℕ} {last : Bool} {m out : List ℕ} {r : Played} {k out₂ : List ℕ} → Plays text last m out r k out₂ → RunsTo (browser m) (browser k)
 unfolding portion_of
 play-comes {text} {last} {m} {out} u = subst (λ (p : Portion). RunsTo (browser m) p.browser) (sym u.tells) (portion_comes (suc (length text)) text last (length out) (browser m))
+
+pub either_way : {T E P : Type 0} (r : Outcome T E) → P → OnErr r P
+either_way (Ok x) p = tt
+either_way (Err e) p = p
 
 -- WHY NO MORE WAS PLAYED.
 pub record Reasons (s : List ℕ) (last : Bool) (room : ℕ) (halt : Halt) (read written : ℕ) : Type 0 where

@@ -7,6 +7,8 @@ ghost use Rattle.playing.specs.Feeds.{Begins};
 
 use crate::window::{Run, turn};
 use memory::Memory;
+use std::io;
+use std::io::{Read, Write};
 
 // What is read of the input at once, and what is told of it: room for two of the longest items. Both stand on the stack.
 const PORTION: usize = 32768;
@@ -26,9 +28,14 @@ fn begin(m: &mut Memory) -> Run
     }
 }
 
-// The run begins with the memory made empty. Its lines go to standard output where they are to be told. Of what comes from outside nothing can be promised: what
-// is made of each portion, `play` promises. Whatever came, the browser is one that a run from the empty open one comes to.
-pub fn play_all(input: i32, m: &mut Memory, loud: bool)
+// The run begins with the memory made empty. Its lines are written where they are to be told. Of what comes from outside nothing can be promised: what
+// is made of each portion, `play` promises. Whatever came, also where a read or a write failed, the browser is one that a run from the empty open one comes to.
+pub fn play_all<R: Read, W: Write>(
+    input: &mut R,
+    out: &mut W,
+    m: &mut Memory,
+    loud: bool,
+) -> io::Result<()>
     ensures { RunsTo empty_browser (browser m.new) }
 {
     let mut run = begin(m);
@@ -36,10 +43,11 @@ pub fn play_all(input: i32, m: &mut Memory, loud: bool)
     let mut lines = [0u8; PORTION];
     let mut turns = TURNS;
     while 0 < turns {
-        run = turn(input, m, &mut window, &mut lines, run, loud);
+        run = turn(input, out, m, &mut window, &mut lines, run, loud)?;
         if run.over {
-            return;
+            return Ok(());
         }
         turns -= 1;
     }
+    Ok(())
 }

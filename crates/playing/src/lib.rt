@@ -1,4 +1,6 @@
 // Plays a run of items over a lent memory, portion by portion, with a line for each (01 "The player's run").
+#![tactic(auto)]
+
 mod looking; // what comes next in a portion: an item, or why there is none
 mod lines; // the line of an item
 mod items; // one item: the memory behind it, and its line

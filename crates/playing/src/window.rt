@@ -1,12 +1,15 @@
 // The window over the input: what was read and is not yet played stands at its front.
-ghost use Rattle.std.specs.Prelude.{◌-◌, ◌≤◌, length};
+ghost use Rattle.std.specs.Prelude.{◌-◌, ◌≤◌, length, IfOk, OnErr};
+ghost use Rattle.wim.specs.Made.{RunsTo};
+ghost use Rattle.browser.specs.View.{browser};
 ghost use Rattle.playing.specs.Keeps.{Keeps};
 ghost use Rattle.playing.specs.Feeds.{Feeds};
 
 use crate::looking::Halt;
 use crate::portions::play;
-use libc::STDOUT_FILENO;
 use memory::Memory;
+use std::io;
+use std::io::{Read, Write};
 
 // How many bytes of the window are held, whether the input has ended, and whether the run has.
 #[derive(Clone, Copy)]
@@ -32,60 +35,62 @@ fn keep(window: &mut [u8], from: usize, to: usize) -> usize
 }
 
 // Reads on behind the bytes that are held: how many came, and none at the end of the input.
-fn fill(input: i32, window: &mut [u8], held: usize) -> usize
+fn fill<R: Read>(input: &mut R, window: &mut [u8], held: usize) -> io::Result<usize>
     requires { held ≤ length window.old }
-    ensures { result ≤ length window.new - held }
+    ensures { IfOk result (λ n. n ≤ length window.new - held) }
 {
-    let got = libc::read(input, &mut window[held..]);
-    io::count(got, &window[held..])
+    input.read(&mut window[held..])
 }
 
-// Writes the lines where they are to be told: whether that went well.
-fn tell(loud: bool, lines: &[u8]) -> bool {
+// Writes the lines where they are to be told. None waits for more.
+fn tell<W: Write>(out: &mut W, loud: bool, lines: &[u8]) -> io::Result<()> {
     if loud {
-        return io::write_all(STDOUT_FILENO, lines);
+        out.write_all(lines)?;
+        out.flush()?;
     }
-    true
+    Ok(())
 }
 
 // Plays what is held and tells the lines. Where that may yet become an item, it reads on.
-pub fn turn(
-    input: i32,
+pub fn turn<R: Read, W: Write>(
+    input: &mut R,
+    out: &mut W,
     m: &mut Memory,
     window: &mut [u8],
     lines: &mut [u8],
     run: Run,
     loud: bool,
-) -> Run
+) -> io::Result<Run>
     requires { run.held ≤ length window.old }
-    ensures { Feeds m.old window.new m.new result.held }
+    ensures ok { IfOk result (λ r. Feeds m.old window.new m.new r.held) }
+    ensures err { OnErr result (RunsTo (browser m.old) (browser m.new)) }
 {
     let held = run.held;
     let last = run.last;
     let played = play(&window[..held], last, m, lines);
     let written = played.written;
-    let told = tell(loud, &lines[..written]);
+    tell(out, loud, &lines[..written])?;
     let read = played.read;
     let left = keep(window, read, held);
     let halt = played.halt;
     match halt {
-        Halt::Over | Halt::Stopped => Run {
+        Halt::Over | Halt::Stopped => Ok(Run {
             held: left,
             last,
             over: true,
-        },
-        Halt::Crowded => Run {
+        }),
+        Halt::Crowded => Ok(Run {
             held: left,
             last,
-            over: !told,
-        },
+            over: false,
+        }),
         Halt::Hungry => {
-            let n = fill(input, window, left);
-            Run {
+            let n = fill(input, window, left)?;
+            Ok(Run {
                 held: left + n,
                 last: n == 0,
-                over: !told,
-            }
+                over: false,
+            })
         }
     }
 }

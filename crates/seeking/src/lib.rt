@@ -1,5 +1,11 @@
 // Bytes sought one by one: what the programs that read lines share.
+#![tactic(auto)]
+
+mod filling; // what the input has, in a buffer
+
 ghost use Rattle.seeking.specs.Sought.{is, is_another, Sought};
+
+pub use filling::read_full;
 
 // The first place from `at` on where the byte b stands, or the end.
 pub fn find(s: &[u8], at: usize, b: u8) -> usize

@@ -1,5 +1,7 @@
 // The window that is asked for: a labelled number is 1 to 4,294,967,295 (01 "Numbers, names, sizes"), in decimal without leading zeros; 0 stands for none.
 use csexp::decimal;
+use std::env::FillError;
+use std::rt::Env;
 
 fn number_in(s: &[u8]) -> u32 {
     let read = decimal(s, 0, 4294967295);
@@ -11,12 +13,19 @@ fn number_in(s: &[u8]) -> u32 {
     0
 }
 
+// Whether there is a word at a place. The first word is the program's own name.
+fn is_there(rt: &impl Env, i: usize) -> bool {
+    !matches!(rt.arg(i, &mut []), Err(FillError::NotPresent))
+}
+
 // Ten bytes hold every such number, and a longer argument is handed out as none at all.
-pub fn window_asked() -> u32 {
-    if os::arg_count() != 2 {
+pub fn window_asked(rt: &impl Env) -> u32 {
+    if is_there(rt, 2) {
         return 0;
     }
     let mut argument = [0u8; 10];
-    let n = os::arg(1, &mut argument);
-    number_in(&argument[..n])
+    match rt.arg(1, &mut argument) {
+        Ok(n) => number_in(&argument[..n]),
+        Err(_) => 0,
+    }
 }

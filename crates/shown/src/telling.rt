@@ -1,20 +1,20 @@
 // The line: what is shown, or why nothing is.
 use exhibit::show;
-use libc::STDOUT_FILENO;
 use memory::Memory;
 use rehearsal::number;
+use std::io;
 use types::WindowNumber;
 
 // 65,536 bytes hold what is shown of every browser that a run has made: each of at most 32 windows stands in the tree once.
-pub fn tell(m: &Memory, w: WindowNumber) {
-    let mut text = io::large_buffer();
+pub fn tell(rt: &impl Print, m: &Memory, w: WindowNumber) -> io::Result<()> {
+    let mut text = [0u8; 65536];
     let shown = show(m, w, &mut text, 0);
     let count = shown.count;
     let verdict = shown.verdict;
     let refused = number(verdict);
-    io::write_all(STDOUT_FILENO, &text[..count]);
+    rt.write_all(&text[..count])?;
     if refused != 0 {
-        io::print_decimal(STDOUT_FILENO, refused as u64);
+        print!(rt; "{refused}")?;
     }
-    io::write_all(STDOUT_FILENO, b"\n");
+    rt.write_all(b"\n")
 }

@@ -6,6 +6,7 @@ use crate::telling::{take, word};
 use csexp::decimal;
 use memory::Memory;
 use seeking::find;
+use std::io;
 
 // No buffer is longer: there is room for the longest event, and for bytes before it and behind.
 const LONGEST: usize = 8192;
@@ -23,7 +24,7 @@ fn behind(line: &[u8], at: usize) -> usize
     if at < line.len() { at + 1 } else { line.len() }
 }
 
-fn step_line(line: &[u8], m: &mut Memory) {
+fn step_line(rt: &impl Print, line: &[u8], m: &mut Memory) -> io::Result<()> {
     let size = decimal(line, 0, LONGEST);
     let place = decimal(line, behind(line, size.next), 18446744073709551615);
     let name = behind(line, place.next);
@@ -32,12 +33,13 @@ fn step_line(line: &[u8], m: &mut Memory) {
     let room = size.value;
     let mut buffer = dots();
     take(
+        rt,
         &line[name..end],
         &line[text..],
         m,
         &mut buffer[..room],
         place.value,
-    );
+    )
 }
 
 fn put_line(line: &[u8], m: &mut Memory) {
@@ -52,35 +54,37 @@ fn any_line(line: &[u8], m: &mut Memory) {
 }
 
 // A line that makes a memory is told as it stands. One that makes none is told to be so, and leaves the memory as it was.
-fn memory_line(line: &[u8], first: u8, m: &mut Memory) {
-    word(line);
-    word(b"\n");
+fn memory_line(rt: &impl Print, line: &[u8], first: u8, m: &mut Memory) -> io::Result<()> {
+    word(rt, line)?;
+    word(rt, b"\n")?;
     match first {
         b'a' => any_line(line, m),
         b'p' => put_line(line, m),
         b'e' => rehearsal::make_empty(m),
-        _ => word(b"not understood\n"),
+        _ => word(rt, b"not understood\n")?,
     }
+    Ok(())
 }
 
 // A step's line begins with a digit.
-fn one_line(line: &[u8], m: &mut Memory) {
+fn one_line(rt: &impl Print, line: &[u8], m: &mut Memory) -> io::Result<()> {
     if line.len() == 0 {
-        return;
+        return Ok(());
     }
     let first = line[0];
     if first <= b'9' {
-        step_line(line, m);
+        step_line(rt, line, m)
     } else {
-        memory_line(line, first, m);
+        memory_line(rt, line, first, m)
     }
 }
 
-pub fn each_line(s: &[u8], m: &mut Memory) {
+pub fn each_line(rt: &impl Print, s: &[u8], m: &mut Memory) -> io::Result<()> {
     let mut at = 0;
     while at < s.len() {
         let e = find(s, at, b'\n');
-        one_line(&s[at..e], m);
+        one_line(rt, &s[at..e], m)?;
         at = e + 1;
     }
+    Ok(())
 }

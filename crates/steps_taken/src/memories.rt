@@ -20,7 +20,7 @@ pub fn fill(m: &mut Memory, bound: u32) {
     let mut b = 3405691582;
     let mut i = 0;
     while i < TOTAL {
-        let c = std::num::wrapping_add_u32(a, b);
+        let c = u32::wrapping_add(a, b);
         put(m, i, below(c, bound));
         a = b;
         b = c;

@@ -10,20 +10,20 @@ use Rattle.seeking.proofs.Places.{ended, hit, again}
 use Rattle.seeking.proofs.find.Statement.{statement}
 use Rattle.seeking.proofs.find.Tie as tie
 
-abbrev invariant-loop : tie.invariant-loop
+abbrev invariant-loop : tie.invariant-loop-i
 invariant-loop s at b i₀ i = i + until (is b) (drop i s) ≡ at + until (is b) (drop at s)
 
-abbrev decreases-loop : tie.decreases-loop
+abbrev decreases-loop : tie.decreases-loop-i
 decreases-loop s at b i₀ i = length s - i
 
-returns : tie.Need-returns invariant-loop decreases-loop
-returns c = hit _ _ _ _ c.before.before.before.loop.invariant (omega arith) (eq-eqb _ _ c.if1.true)
+returns : tie.Need-returns-then-s-i invariant-loop decreases-loop
+returns c = hit _ _ _ _ c.before.before.before.loop-i.invariant (omega arith) (eq-eqb _ _ c.if-s-i.true)
 
-loop-again : tie.Need-loop-preserved invariant-loop decreases-loop
-loop-again c = again _ _ _ _ c.before.before.before.loop.invariant (omega arith) (ne_eqb _ _ c.if1.false)
+loop-again : tie.Need-loop-i-preserved invariant-loop decreases-loop
+loop-again c = again _ _ _ _ c.before.before.before.loop-i.invariant (omega arith) (ne_eqb _ _ c.if-s-i.false)
 
-returns-2 : tie.Need-returns-2 invariant-loop decreases-loop
-returns-2 c = ended _ _ _ _ c.before.loop.invariant (omega arith)
+returns-2 : tie.Need-returns invariant-loop decreases-loop
+returns-2 c = ended _ _ _ _ c.before.loop-i.invariant (omega arith)
 
 pub find_spec : {M : Type 1} → statement M
 find_spec =

@@ -11,20 +11,20 @@ use Rattle.seeking.proofs.Places.{ended, hit, again}
 use Rattle.seeking.proofs.pass.Statement.{statement}
 use Rattle.seeking.proofs.pass.Tie as tie
 
-abbrev invariant-loop : tie.invariant-loop
+abbrev invariant-loop : tie.invariant-loop-end
 invariant-loop s at b end₀ end = end + until (is_another b) (drop end s) ≡ at + until (is_another b) (drop at s)
 
-abbrev decreases-loop : tie.decreases-loop
+abbrev decreases-loop : tie.decreases-loop-end
 decreases-loop s at b end₀ end = length s - end
 
-returns : tie.Need-returns invariant-loop decreases-loop
-returns c = hit _ _ _ _ c.before.before.before.loop.invariant (omega arith) (ap not (ne_eqb _ _ c.if1.true))
+returns : tie.Need-returns-then-s-end invariant-loop decreases-loop
+returns c = hit _ _ _ _ c.before.before.before.loop-end.invariant (omega arith) (ap not (ne_eqb _ _ c.if-s-end.true))
 
-loop-again : tie.Need-loop-preserved invariant-loop decreases-loop
-loop-again c = again _ _ _ _ c.before.before.before.loop.invariant (omega arith) (ap not (eq-eqb _ _ c.if1.false))
+loop-again : tie.Need-loop-end-preserved invariant-loop decreases-loop
+loop-again c = again _ _ _ _ c.before.before.before.loop-end.invariant (omega arith) (ap not (eq-eqb _ _ c.if-s-end.false))
 
-returns-2 : tie.Need-returns-2 invariant-loop decreases-loop
-returns-2 c = ended _ _ _ _ c.before.loop.invariant (omega arith)
+returns-2 : tie.Need-returns invariant-loop decreases-loop
+returns-2 c = ended _ _ _ _ c.before.loop-end.invariant (omega arith)
 
 pub pass_spec : {M : Type 1} → statement M
 pass_spec =

@@ -10,44 +10,44 @@ use Rattle.playing.proofs.Adding.{adds_as, adds_then}
 use Rattle.playing.proofs.lines.put_answer.Statement.{statement}
 use Rattle.playing.proofs.lines.put_answer.Tie as tie
 
-add-result : tie.Need-overflow-add-result
+add-result : tie.Need-overflow_add-result
 add-result c = omega arith
 
-returns : tie.Need-returns
-returns c = record { none = λ e. absurd (omega (arith, c.if1.true, e)); some = λ e. (refl, refl); short = omega (arith, c.before.before.requires) }
+returns : tie.Need-returns-then-count-gt0
+returns c = record { none = λ e. absurd (omega (arith, c.if-count-gt0.true, e)); some = λ e. (refl, refl); short = omega (arith, c.requires) }
 
-put-byte-requires : tie.Need-put-byte-requires
+put-byte-requires : tie.Need-put_byte-p-requires
 put-byte-requires c κs = omega arith
 
-put-byte-requires-2 : tie.Need-put-byte-requires-2
-put-byte-requires-2 c κs = let place = c.before.before.before.put_byte.ensures.place in omega (arith, c.before.before.before.put_byte.auto, c.before.before.before.before.before.before.before.before.requires)
+put-byte-requires-2 : tie.Need-put_byte-requires
+put-byte-requires-2 c κs = let place = c.before.before.before.put_byte-p.ensures.place in omega (arith, c.before.before.before.put_byte-p.auto, c.requires)
 
-returns-2 : tie.Need-returns-2
+returns-2 : tie.Need-returns-then-n-eq0
 returns-2 c =
-    let a = c.before.before.before.before.before.before.before.before.before.before.before.args in
-    let two = adds_then c.before.before.before.before.before.before.put_byte.ensures c.before.before.put-byte2.ensures in
+    let a = c.args in
+    let two = adds_then c.before.before.before.before.before.before.put_byte-p.ensures c.before.before.put_byte.ensures in
     record {
-      none = λ e. adds_as (sym (ap (λ (x : Bool). cond x (40 ∷ (41 ∷ [])) ((48 + a.n) ∷ [])) (eq-eqb a.n 0 c.before.before.before.before.before.before.before.before.if2.true))) two;
-      some = λ e. absurd (e (omega (arith, c.before.before.before.before.before.before.before.before.before.if1.false)));
+      none = λ e. adds_as (sym (ap (λ (x : Bool). cond x (40 ∷ (41 ∷ [])) ((48 + a.n) ∷ [])) (eq-eqb a.n 0 c.before.before.before.before.before.before.before.before.if-n-eq0.true))) two;
+      some = λ e. absurd (e (omega (arith, c.before.before.before.before.before.before.before.before.before.if-count-gt0.false)));
       short = let place = two.place in omega arith;
     }
 
-cast-put-byte : tie.Need-overflow-cast-put-byte
-cast-put-byte c = omega (arith, c.before.before.before.before.requires)
+cast-put-byte : tie.Need-overflow_cast-n
+cast-put-byte c = omega (arith, c.requires)
 
-add-put-byte : tie.Need-overflow-add-put-byte
-add-put-byte c = omega (arith, c.before.before.before.before.requires)
+add-put-byte : tie.Need-overflow_add-n
+add-put-byte c = omega (arith, c.requires)
 
-put-byte-requires-3 : tie.Need-put-byte-requires-3
-put-byte-requires-3 c κs = omega (arith, c.before.before.before.before.requires)
+put-byte-requires-3 : tie.Need-put_byte-requires-2
+put-byte-requires-3 c κs = omega (arith, c.requires)
 
-returns-3 : tie.Need-returns-3
+returns-3 : tie.Need-returns
 returns-3 c =
-    let a = c.before.before.before.before.before.before.before.args in
+    let a = c.args in
     record {
-      none = λ e. adds_as (sym (ap (λ (x : Bool). cond x (40 ∷ (41 ∷ [])) ((48 + a.n) ∷ [])) (ne_eqb a.n 0 c.before.before.before.before.if2.false))) c.before.before.put-byte3.ensures;
-      some = λ e. absurd (e (omega (arith, c.before.before.before.before.before.if1.false)));
-      short = let place = c.before.before.put-byte3.ensures.place in omega arith;
+      none = λ e. adds_as (sym (ap (λ (x : Bool). cond x (40 ∷ (41 ∷ [])) ((48 + a.n) ∷ [])) (ne_eqb a.n 0 c.before.before.before.before.if-n-eq0.false))) c.before.before.put_byte-2.ensures;
+      some = λ e. absurd (e (omega (arith, c.before.before.before.before.before.if-count-gt0.false)));
+      short = let place = c.before.before.put_byte-2.ensures.place in omega arith;
     }
 
 pub put_answer_spec : {M : Type 1} → statement M
