@@ -18,6 +18,7 @@ import tempfile
 
 TOP = os.path.dirname(os.path.dirname(os.path.abspath(__file__)))
 SAID = re.compile(r"(?:rt: )?must-fail (\w+)/(.*?)(\.control)?\.edit: (refused|NOT REFUSED|BAD EDIT|NOT TRIED)")
+LISTED = {line.split(":")[0].split()[0] for line in open(f"{TOP}/crates.txt") if ":" in line.split("#")[0]}
 
 
 def crate_of(path):
@@ -27,7 +28,7 @@ def crate_of(path):
 def found(ending):
     """The files of that ending, with the crate of each: those right in must-fail/, and those of its folder `more`."""
     places = [f"{TOP}/crates/*/must-fail/*{ending}", f"{TOP}/crates/*/must-fail/more/*{ending}", f"{TOP}/crates/*/more/*{ending}"]
-    return sorted((crate_of(path), path) for place in places for path in glob.glob(place))
+    return sorted((crate_of(path), path) for place in places for path in glob.glob(place) if crate_of(path) in LISTED)
 
 
 def name_of(path):
