@@ -6,8 +6,8 @@ use Rattle.scripts.proofs.act.Tie as tie
 
 returns : tie.Need-returns
 returns c =
-    let a = c.before.before.before.before.before.before.args in
-    let g = c.before.before.merge in
+    let a = c.args in
+    let g = c.before.before.merge-merged in
     acts (record { window = a.w; document = a.d; top = a.top; merged = g.result; output = a.out }) (cookies_in a.new) a.f a.m.now _ _ g.ensures c.command.ensures
 
 pub act_spec : {M : Type 1} → statement M

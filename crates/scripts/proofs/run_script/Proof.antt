@@ -12,21 +12,21 @@ use Rattle.scripts.proofs.Ways.{looks}
 use Rattle.scripts.proofs.run_script.Statement.{statement}
 use Rattle.scripts.proofs.run_script.Tie as tie
 
-returns : tie.Need-returns
+returns : tie.Need-returns-in-Lacks
 returns c =
-    let a = c.before.before.before.before.before.before.args in
+    let a = c.args in
     let new = cookies_in a.new in
-    let x = c.before.before.s in
-    refuses (run_script a.w a.out new) a.f (looks a.w a.out new (view a.m.now) (fresh_labels a.f) (Lacks x.given.0.0) (sym x.given.1 ∙ c.before.before.before.before.displayed.ensures)) c.refuse.ensures
+    let x = c.before.in-Lacks in
+    refuses (run_script a.w a.out new) a.f (looks a.w a.out new (view a.m.now) (fresh_labels a.f) (Lacks x.x) (sym x.is ∙ c.before.before.displayed-s.ensures)) c.refuse.ensures
 
-returns-2 : tie.Need-returns-2
+returns-2 : tie.Need-returns-in-Shows
 returns-2 c =
-    let a = c.before.before.before.before.before.before.before.args in
+    let a = c.args in
     let new = cookies_in a.new in
-    let x = c.before.before.before.s2 in
-    let top = x.given.0.0 in
-    let d = x.given.0.1.0 in
-    performs_as (run_script a.w a.out new) (acting a.w a.out new top d) (looks a.w a.out new (view a.m.now) (fresh_labels a.f) (Shows top d) (sym x.given.1 ∙ c.before.before.before.before.before.displayed.ensures)) c.act.ensures
+    let x = c.before.before.in-Shows in
+    let top = x.top in
+    let d = x.d in
+    performs_as (run_script a.w a.out new) (acting a.w a.out new top d) (looks a.w a.out new (view a.m.now) (fresh_labels a.f) (Shows top d) (sym x.is ∙ c.before.before.before.displayed-s.ensures)) c.act.ensures
 
 pub run_script_spec : {M : Type 1} → statement M
 run_script_spec = tie.close (tie.spec (λ c κs. tt) (λ c. search rules) (λ c κs. tt) (λ c. search rules) (λ c κs. tt) returns returns-2)

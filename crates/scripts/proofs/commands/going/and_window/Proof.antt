@@ -8,5 +8,5 @@ pub and_window_spec : {M : Type 1} → statement M
 and_window_spec = tie.close (tie.spec
     (λ c κs. tt)
     (λ c κs. tt)
-    (λ c. omega (arith, c.used.ensures))
-    (λ c. let a = c.before.before.args in front 32 a.ws.count a.ws.rows c.used.result a.v _ c.used.ensures c.before.at_front.ensures))
+    (λ c. omega (arith, c.used-n.ensures))
+    (λ c. let a = c.args in front 32 a.ws.count a.ws.rows c.used-n.result a.v _ c.used-n.ensures c.before.at_front-u.ensures))

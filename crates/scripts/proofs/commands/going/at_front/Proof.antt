@@ -6,10 +6,10 @@ use Rattle.sorted.proofs.Open.{Opening, open_start, open_next, open_end}
 use Rattle.scripts.proofs.commands.going.at_front.Statement.{statement}
 use Rattle.scripts.proofs.commands.going.at_front.Tie as tie
 
-abbrev invariant-loop : tie.invariant-loop
+abbrev invariant-loop : tie.invariant-loop-i
 invariant-loop u₀ hold₀ i₀ u hold i = Opening 0 hold₀ 33 u₀.rows u.rows hold i
 
-abbrev decreases-loop : tie.decreases-loop
+abbrev decreases-loop : tie.decreases-loop-i
 decreases-loop u₀ hold₀ i₀ u hold i = 33 - i
 
 pub at_front_spec : {M : Type 1} → statement M
@@ -21,5 +21,5 @@ at_front_spec = tie.close (tie.spec invariant-loop decreases-loop
     (λ c. omega arith)
     (λ c. omega arith)
     (λ c. omega arith)
-    (λ c. open_next c.before.before.loop.invariant _ (omega arith))
-    (λ c. open_end c.before.loop.invariant (omega arith)))
+    (λ c. open_next c.before.before.loop-i.invariant _ (omega arith))
+    (λ c. open_end c.before.loop-i.invariant (omega arith)))

@@ -11,8 +11,8 @@ use Rattle.scripts.proofs.commands.going.with_all_under.Tie as tie
 returns : tie.Need-returns
 unfolding documents_of
 returns c =
-    let a = c.before.before.before.before.before.args in
-    goes_with _ _ 32 (omega (arith, counted windows_in a.m.now)) a.v _ _ (going c.before.before.before.removal.result) _ c.before.and-window.ensures c.before.before.before.removal.ensures c.before.before.before.before.numbers.ensures
+    let a = c.args in
+    goes_with _ _ 32 (omega (arith, counted windows_in a.m.now)) a.v _ _ (going c.before.before.before.removal-under.result) _ c.before.and_window-all.ensures c.before.before.before.removal-under.ensures c.before.before.before.before.numbers-own.ensures
 
 pub with_all_under_spec : {M : Type 1} → statement M
 with_all_under_spec = tie.close (tie.spec (λ c κs. tt) (λ c κs. tt) (λ c κs. tt) returns)

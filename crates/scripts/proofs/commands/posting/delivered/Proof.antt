@@ -13,14 +13,14 @@ use Rattle.scripts.proofs.commands.Posts.{ran_delivered}
 use Rattle.scripts.proofs.commands.posting.delivered.Statement.{statement}
 use Rattle.scripts.proofs.commands.posting.delivered.Tie as tie
 
-returns : tie.Need-returns
+returns : tie.Need-returns-then-brings_none
 returns c =
-    let a = c.before.before.before.before.before.before.before.before.args in
-    silently (storing a.s (edit inputs (put a.row ∷ []) (done none))) a.f c.before.before.before.before.before.before.before.brings-none.ensures (ran_delivered a.s a.row (view a.m.now)) c.before.before.before.before.before.before.if1.true
-    (room_as (sym c.before.both.ensures) (carries-then refl c.before.before.before.before.store.ensures (put-carries inputs c.before.before.put.ensures))) c.silent.ensures
+    let a = c.args in
+    silently (storing a.s (edit inputs (put a.row ∷ []) (done none))) a.f c.before.before.before.before.before.before.before.brings_none.ensures (ran_delivered a.s a.row (view a.m.now)) c.before.before.before.before.before.before.if-brings_none.true
+    (room_as (sym c.before.both.ensures) (carries-then refl c.before.before.before.before.store-stored.ensures (put-carries inputs c.before.before.put-filed.ensures))) c.silent.ensures
 
-returns-2 : tie.Need-returns-2
-returns-2 c = let a = c.before.before.before.args in unfresh (storing a.s (edit inputs (put a.row ∷ []) (done none))) a.f c.before.before.brings-none.ensures tt c.before.if1.false c.refuse.ensures
+returns-2 : tie.Need-returns
+returns-2 c = let a = c.args in unfresh (storing a.s (edit inputs (put a.row ∷ []) (done none))) a.f c.before.before.brings_none.ensures tt c.before.if-brings_none.false c.refuse.ensures
 
 pub delivered_spec : {M : Type 1} → statement M
 delivered_spec = tie.close (tie.spec (λ c κs. tt) (λ c κs. tt) (λ c κs. tt) (λ c κs. tt) (λ c κs. tt) returns (λ c κs. tt) returns-2)

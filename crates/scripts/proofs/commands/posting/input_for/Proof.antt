@@ -10,9 +10,9 @@ use Rattle.scripts.proofs.commands.posting.input_for.Tie as tie
 
 returns : tie.Need-returns
 returns c =
-    let a = c.before.before.before.before.before.args in
-    c.next-input.ensures
-    ∙ ap (λ (o : Origin). next_input a.d.number (Posted a.s.window o a.message) (table inputs_in a.m.now)) c.before.before.origin-of.ensures
+    let a = c.args in
+    c.next_input.ensures
+    ∙ ap (λ (o : Origin). next_input a.d.number (Posted a.s.window o a.message) (table inputs_in a.m.now)) c.before.before.origin_of-o.ensures
 
 pub input_for_spec : {M : Type 1} → statement M
 input_for_spec = tie.close (tie.spec (λ c κs. tt) (λ c κs. tt) returns)

@@ -6,11 +6,11 @@ use Rattle.tables.specs.Rows.{same_origin}
 use Rattle.scripts.proofs.commands.posting.is_for.Statement.{statement}
 use Rattle.scripts.proofs.commands.posting.is_for.Tie as tie
 
-returns : tie.Need-returns
-returns c = rw c.enum_told.given.1
+returns : tie.Need-returns-in-Anyone
+returns c = rw c.in-Anyone.is
 
-returns-2 : tie.Need-returns-2
-returns-2 c = rw c.before.before.before.to.given.1 (c.same-origin.ensures ∙ ap (λ (o : Origin). same_origin o c.before.before.before.to.given.0.0) c.before.origin-of.ensures)
+returns-2 : tie.Need-returns-in-Only
+returns-2 c = rw c.before.before.in-Only.is (c.same_origin.ensures ∙ ap (λ (o : Origin). same_origin o c.before.before.in-Only.o) c.before.origin_of-p.ensures)
 
 pub is_for_spec : {M : Type 1} → statement M
 is_for_spec = tie.close (tie.spec (λ c. search rules) (λ c. search rules) (λ c κs. tt) (λ c κs. tt) returns returns-2)

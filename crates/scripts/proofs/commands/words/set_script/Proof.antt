@@ -14,8 +14,8 @@ use Rattle.scripts.proofs.commands.words.set_script.Tie as tie
 
 returns : tie.Need-returns
 returns c =
-    let a = c.before.before.before.before.before.before.args in
-    let e = c.before.before.before.get-window in
+    let a = c.args in
+    let e = c.before.before.before.get_window-e in
     performs_as (setting a.s.document (storing a.s) a.x (with_script a.v)) (storing a.s (revise documents (changing e.result.number (with_script a.v)) (done none)))
     (sets a.s a.x (with_script a.v) e.result (view a.m.now) (fresh_labels a.f) e.ensures) c.revised.ensures
 
