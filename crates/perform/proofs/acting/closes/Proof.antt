@@ -4,32 +4,32 @@ use borrow.Author.Rules.{rules}
 use Rattle.perform.proofs.acting.closes.Statement.{statement}
 use Rattle.perform.proofs.acting.closes.Tie as tie
 
-returns : tie.Need-returns
-returns c = rw c.enum_told.given.1 refl
+returns : tie.Need-returns-in-RunScript
+returns c = rw c.in-RunScript.is refl
 
-returns-2 : tie.Need-returns-2
-returns-2 c = rw c.enum-told2.given.1 refl
+returns-2 : tie.Need-returns-in-Urlbar
+returns-2 c = rw c.in-Urlbar.is refl
 
-returns-3 : tie.Need-returns-3
-returns-3 c = rw c.enum-told3.given.1 refl
+returns-3 : tie.Need-returns-in-Reload
+returns-3 c = rw c.in-Reload.is refl
 
-returns-4 : tie.Need-returns-4
-returns-4 c = rw c.enum-told4.given.1 refl
+returns-4 : tie.Need-returns-in-GoForward
+returns-4 c = rw c.in-GoForward.is refl
 
-returns-5 : tie.Need-returns-5
-returns-5 c = rw c.enum-told5.given.1 refl
+returns-5 : tie.Need-returns-in-GoBack
+returns-5 c = rw c.in-GoBack.is refl
 
-returns-6 : tie.Need-returns-6
-returns-6 c = rw c.enum-told6.given.1 refl
+returns-6 : tie.Need-returns-in-CloseCorrupt
+returns-6 c = rw c.in-CloseCorrupt.is refl
 
-returns-7 : tie.Need-returns-7
-returns-7 c = rw c.enum-told7.given.1 refl
+returns-7 : tie.Need-returns-in-EncryptedAnswer
+returns-7 c = rw c.in-EncryptedAnswer.is refl
 
-returns-8 : tie.Need-returns-8
-returns-8 c = rw c.enum-told8.given.1 refl
+returns-8 : tie.Need-returns-in-PlainAnswer
+returns-8 c = rw c.in-PlainAnswer.is refl
 
-returns-9 : tie.Need-returns-9
-returns-9 c = rw c.enum-told9.given.1 refl
+returns-9 : tie.Need-returns-in-DnsResolved
+returns-9 c = rw c.in-DnsResolved.is refl
 
 pub closes_spec : {M : Type 1} → statement M
 closes_spec = tie.close (tie.spec (λ c. search rules) (λ c. search rules) (λ c. search rules) (λ c. search rules) (λ c. search rules) (λ c. search rules) (λ c. search rules) (λ c. search rules) (λ c. search rules) returns returns-2 returns-3 returns-4 returns-5 returns-6 returns-7 returns-8 returns-9)

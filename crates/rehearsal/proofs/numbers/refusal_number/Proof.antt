@@ -14,8 +14,8 @@ three NoQuestion = refl
 three NoRequest = refl
 three Mismatch = refl
 
-returns-3 : tie.Need-returns-3
-returns-3 c = rw c.enum-told3.given.1 (three c.enum-told3.given.0.0)
+returns-3 : tie.Need-returns-in-Lacking
+returns-3 c = rw c.in-Lacking.is (three c.in-Lacking.field-0)
 
 pub refusal_number_spec : {M : Type 1} → statement M
 refusal_number_spec =

@@ -10,6 +10,6 @@ use Rattle.rehearsal.proofs.telling.is_wide.Tie as tie
 
 pub is_wide_spec : {M : Type 1} → statement M
 is_wide_spec = tie.close (tie.spec (λ c. search rules)
-    (λ c. let behind = length c.before.args.out.now - c.before.args.place in
+    (λ c. let behind = length c.args.out.now - c.args.place in
     record { room = λ e. let h = leb-true _ behind e in omega arith; wide = λ h. le-leb _ behind (omega arith) })
-    (λ c. let past = c.if1.false in record { room = λ e. absurd (false≢true e); wide = λ h. absurd (omega arith) }))
+    (λ c. let past = c.if-place-out.false in record { room = λ e. absurd (false≢true e); wide = λ h. absurd (omega arith) }))
