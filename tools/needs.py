@@ -1,5 +1,10 @@
-"""What `rt dev CRATE` says is left to prove, for the tools that write proof files (readers.py, writers.py)."""
-import os, re, subprocess, tempfile
+"""What `rt dev CRATE` of the older kit (rattle-kit-5b) said is left to prove, for the tools that wrote proof files by it (readers.py, writers.py).
+
+Today's `rt` has no such command, and names places, goals and rules otherwise. The three tools are kept as a record of how those proofs were made, and stop at once.
+"""
+import os, re, subprocess, sys, tempfile
+
+sys.exit('readers.py and writers.py are of the older kit: what they wrote stands in crates/*/proofs and is kept by hand')
 
 ENV = dict(os.environ, RT_CUT='0')
 

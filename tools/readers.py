@@ -1,5 +1,5 @@
 #!/usr/bin/env python3
-"""Writes the proof files of the typed readers that have no loop: tools/readers.py CRATE [FUNCTION ..], run in the repository.
+"""Wrote the proof files of the typed readers that have no loop, with the older kit: see needs.py. It was run in the repository as tools/readers.py CRATE [FUNCTION ..].
 
 A reader's contract is `Reads decoder text at value next` of csexp, or its like `Rest` and `Tries`. The tool takes the functions that have such a contract,
 no loop and no proof file yet, has `rt dev` write down what is known at each place of their code, and answers:

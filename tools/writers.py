@@ -1,5 +1,5 @@
 #!/usr/bin/env python3
-"""Writes the proof files of the typed writers that have no loop: tools/writers.py CRATE [FUNCTION ..], run in the repository.
+"""Wrote the proof files of the typed writers that have no loop, with the older kit: see needs.py. It was run in the repository as tools/writers.py CRATE [FUNCTION ..].
 
 A writer's contract is `Writes term before at after next` of csexp, or `Items terms ..` for terms that may be absent. Its proof is a
 law of csexp's proofs/write/Steps for each call, one to a line: `open_list` or `open_word`, writers of parts and `close_list`, lists in

@@ -1,4 +1,6 @@
 // The browser that a memory holds: open or closed, with how much room. Its tables are read and written by crates of their own.
+#![tactic(auto)]
+
 ghost use Rattle.std.specs.Prelude.{◌≡◌};
 ghost use Rattle.browser.specs.View.{is_closed, is_roomy, browser, with_closed};
 

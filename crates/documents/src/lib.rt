@@ -1,4 +1,6 @@
 // The documents, by window and place in its history, in lent memory. Written by tools/tables.py.
+#![tactic(auto)]
+
 mod rows; // a row read from its numbers and written as them
 mod tests; // which rows are meant
 mod changes; // what is changed in a document

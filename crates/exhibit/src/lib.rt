@@ -1,5 +1,7 @@
 // What the script of a window is shown: 000 A7:2 to 9 with Definition 35 (Clean), as one canonical text in a lent buffer. A script's step itself
 // never needs it: the item says what the script does.
+#![tactic(auto)]
+
 pub mod tree; // windows and documents
 
 ghost use Rattle.csexp.specs.Term.{write};

@@ -1,5 +1,7 @@
 // The active document of a reached window, which reload, back, forward and scripts look at first; and 000 Algorithms 5 and 6, NAVBACK and NAVFORWARD:
 // one algorithm with two directions, for triggers and for scripts.
+#![tactic(auto)]
+
 ghost use Rattle.std.specs.Prelude.{◌≡◌, true, []};
 ghost use Rattle.sorted.specs.Table.{looked};
 ghost use Rattle.memory.specs.Rows.{table};

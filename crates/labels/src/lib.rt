@@ -1,4 +1,6 @@
 // What stands in rows, compared: labels, and what else the tests of the tables ask.
+#![tactic(auto)]
+
 pub mod addresses; // hosts, protocols, origins
 pub mod blank; // what fills a place of which nothing is said
 pub mod cookies; // names of cookies, and where a cookie goes

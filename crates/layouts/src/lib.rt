@@ -1,4 +1,6 @@
 // Parts of rows, read from numbers of a memory and written as numbers. Any numbers say something; a writer's contract says what is read again.
+#![tactic(auto)]
+
 pub mod single; // what one number says
 pub mod kin; // parents, openers, the key of a request
 pub mod addresses; // origins, addresses, referrers

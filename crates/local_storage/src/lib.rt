@@ -1,4 +1,6 @@
 // What scripts keep in local storage, by origin, in lent memory. Written by tools/tables.py.
+#![tactic(auto)]
+
 mod rows; // a row read from its numbers and written as them
 mod tests; // which rows are meant
 

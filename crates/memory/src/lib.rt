@@ -1,4 +1,6 @@
 // A memory of numbers that is lent, and rows of numbers in it moved about. Nothing here knows what the numbers say.
+#![tactic(auto)]
+
 ghost use Rattle.std.specs.Prelude.{◌≡◌, min, length, get_or};
 ghost use Rattle.memory.specs.Rows.{total, Stored, Carried, Lifted};
 

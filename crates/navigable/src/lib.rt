@@ -1,5 +1,7 @@
 // The windows that the active document of a window may navigate (000 Definition 38), asked of one window and as a set.
 // The rows of both tables may stand in any order, and their counts may say anything.
+#![tactic(auto)]
+
 ghost use Rattle.std.specs.Prelude.{◌≡◌, cond};
 ghost use Rattle.sorted.specs.Table.{looked};
 ghost use Rattle.tables.specs.Rows.{origin_of};

@@ -1,4 +1,6 @@
 // The requests that wait for their host's address, by number, in lent memory. Written by tools/tables.py.
+#![tactic(auto)]
+
 mod rows; // a row read from its numbers and written as them
 mod tests; // which rows are meant
 

@@ -140,6 +140,7 @@ PutsIn t (drop k ∷ es) = PutsIn t es
 PutsIn t (sift p ∷ es) = PutsIn t es
 
 puts_in : (t : Table) (es : Edits t) → PutsIn t es → (r : Row t) → In (put r) es → RowIn t r
+puts_in t [] h r x'' = elim x'' [ ]
 puts_in t (put x ∷ es) h r (inl e) = let z : r ≡ x = cc in subst (RowIn t) (sym z) h.0
 puts_in t (put x ∷ es) h r (inr i) = puts_in t es h.1 r i
 puts_in t (drop k ∷ es) h r (inl e) = never (cc)

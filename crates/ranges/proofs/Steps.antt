@@ -66,6 +66,7 @@ ranged_program (DnsResolved a) i new c = ranged_ask (question a.number) _ (range
 
 -- WHAT IS BROUGHT: the fresh numbers that are given.
 given_in : (ls : List Label) → All (λ (l : Label). ValueIn l.1) ls → (l : Label) → In l (given ls) → NumberIn l.1
+given_in mathlib.Core.List.[] h l i = elim i [ ]
 given_in (m ∷ ls) h l i = go (eqb m.1 0) refl i (given_in ls h.1 l)
   where
     go : (c : Bool) → eqb m.1 0 ≡ c → In l (cond c (given ls) (m ∷ given ls)) → (In l (given ls) → NumberIn l.1) → NumberIn l.1

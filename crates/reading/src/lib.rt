@@ -1,4 +1,6 @@
 // An item, read from text: "An item is a list of three: event, choices, fresh numbers" (01 "The text").
+#![tactic(auto)]
+
 mod choices; // what a TRIGGER chooses: 000 A7 and A9
 mod fresh; // the fresh numbers
 mod items; // events and items

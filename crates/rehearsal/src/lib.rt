@@ -1,4 +1,6 @@
 // The product's face: a step on an item's text over a lent memory, and a memory made empty.
+#![tactic(auto)]
+
 mod beginning; // the empty open browser
 mod numbers; // 01's number of a verdict
 mod telling; // the event in the lent buffer: 7

@@ -1,4 +1,6 @@
 // Documents go, and what stands under them goes with them: what that is, and its going.
+#![tactic(auto)]
+
 pub mod told; // what goes
 
 ghost use Rattle.std.specs.Prelude.{◌≡◌, true, ◌||◌, [], ◌∷◌};

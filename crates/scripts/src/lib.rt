@@ -1,4 +1,6 @@
 // 000 Algorithm 7, RUNSCRIPT, called from A9:9 to 12.
+#![tactic(auto)]
+
 pub mod commands; // the commands that load nothing
 
 ghost use Rattle.types.specs.Lists.{cookies_in};

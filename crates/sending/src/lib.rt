@@ -1,5 +1,7 @@
 // 000 Algorithm 4, HTTP_SEND: an STS host turns the address to S first; then cookies are chosen; then headers; then the DNS question goes out.
 // And Algorithm 3, CANCELNAV.
+#![tactic(auto)]
+
 pub mod request_tests; // tests of methods and addresses
 
 ghost use Rattle.std.specs.Prelude.{◌≡◌, true, cond, [], ◌∷◌};

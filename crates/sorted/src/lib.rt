@@ -1,4 +1,6 @@
 // What the nine tables of the browser share (01 Numbers, names, sizes: every table is kept in rising order of its key).
+#![tactic(auto)]
+
 pub mod keys; // how two keys stand to one another
 pub mod logic; // tests put together by calls
 pub mod place; // how many rows count

@@ -1,4 +1,6 @@
 // How a step ends, and what it hands back: nothing of the memory, which it has changed in place. Beside it refusal 5.
+#![tactic(auto)]
+
 pub mod fresh; // refusal 5: just the fresh numbers that a step wants, and none of them stands anywhere
 
 ghost use Rattle.stepping.specs.Gives.{Refuses, Concludes, Silent};

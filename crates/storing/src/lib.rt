@@ -1,4 +1,6 @@
 // What a script's step or an answer stores: cookies (000 Definitions 36 and 37), local and session storage, and what a script hears next.
+#![tactic(auto)]
+
 mod setting; // which cookies may be set at all
 pub mod scene; // what a step of a script stands on, and what it stores
 

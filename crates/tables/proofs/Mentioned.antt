@@ -4,7 +4,7 @@ use mathlib.Core.Path.{◌≡◌, refl}
 use mathlib.Core.Bool.{true}
 use mathlib.Core.List.{[], ◌∷◌}
 use Rattle.tables.specs.Nouns.{Plain, Get, Unsent, Unknown, Absent, Unset, Unmatched, Number, Url, Origin, Request, Req, Xhr, Keyed, Under, OpenedBy, Answered, Posted}
-use Rattle.tables.specs.Tables.{windows, documents, cookies, session_storage, inputs, pending_dns, pending_requests}
+use Rattle.tables.specs.Tables.{windows, documents, session_storage, inputs, pending_dns, pending_requests}
 use Rattle.tables.specs.Labels.{window, request, dns, key, document, host, mentions}
 use Rattle.tables.specs.Rows.{jar}
 

@@ -1,1 +1,3 @@
+#![tactic(auto)]
+
 // The nine tables as definitions alone: see specs.

@@ -1,5 +1,7 @@
 // The nouns of the browser: what stands in an item, in a table and in a message. No function, no rule: those are definitions. Labels, addresses and requests stand
 // here, under short paths, since the prover spells the path of a type wherever one is passed by value; what is made of them has rooms of its own.
+#![tactic(auto)]
+
 pub mod cookies; // set, and sent
 pub mod commands; // what a script asks for
 pub mod answers; // what comes back

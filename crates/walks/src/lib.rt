@@ -1,5 +1,7 @@
 // Windows and the documents that hold them (000 Definitions 29 to 31 and 34): what is reached, what stands above, what stands under.
 // The rows of both tables may stand in any order, and their counts may say anything.
+#![tactic(auto)]
+
 pub mod told; // what the questions are answered with
 
 ghost use Rattle.std.specs.Prelude.{◌≡◌};

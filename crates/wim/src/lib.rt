@@ -1,1 +1,3 @@
+#![tactic(auto)]
+
 // The rules of the browser as definitions alone: see specs, in the order of Lib.antt.

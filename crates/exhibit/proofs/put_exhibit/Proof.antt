@@ -5,14 +5,14 @@ use Rattle.csexp.proofs.write.Tops.{sent-there, sent_not}
 use Rattle.exhibit.proofs.put_exhibit.Statement.{statement}
 use Rattle.exhibit.proofs.put_exhibit.Tie as tie
 
-returns : tie.Need-returns
-returns c = sent-there _ c.before.before.before.before.before.before.before.write-exhibit.ensures.puts (omega arith) (omega arith) (omega arith) c.before.before.write-exhibit2.ensures.puts
+returns : tie.Need-returns-then-n-out
+returns c = sent-there _ c.before.before.before.before.before.before.before.write_exhibit-n.ensures.puts (omega arith) (omega arith) (omega arith) c.before.before.write_exhibit.ensures.puts
 
-returns-2 : tie.Need-returns-2
-returns-2 c = sent_not _ c.before.before.before.write-exhibit.ensures.puts (omega arith) (omega arith)
+returns-2 : tie.Need-returns-else-n-out
+returns-2 c = sent_not _ c.before.before.before.write_exhibit-n.ensures.puts (omega arith) (omega arith)
 
-returns-3 : tie.Need-returns-3
-returns-3 c = sent_not _ c.before.before.write-exhibit.ensures.puts (omega arith) (omega arith)
+returns-3 : tie.Need-returns-else-place-out
+returns-3 c = sent_not _ c.before.before.write_exhibit-n.ensures.puts (omega arith) (omega arith)
 
 pub put_exhibit_spec : {M : Type 1} → statement M
 put_exhibit_spec =

@@ -5,23 +5,23 @@ use Rattle.exhibit.proofs.Exhibiting.{exhibits_closed, exhibits_lacking, exhibit
 use Rattle.exhibit.proofs.show.Statement.{statement}
 use Rattle.exhibit.proofs.show.Tie as tie
 
-returns : tie.Need-returns
-returns c = exhibits_closed _ _ _ _ (sym c.before.is-closed.ensures ∙ c.if1.true)
+returns : tie.Need-returns-then-is_closed
+returns c = exhibits_closed _ _ _ _ (sym c.before.is_closed.ensures ∙ c.if-is_closed.true)
 
-returns-2 : tie.Need-returns-2
-returns-2 c = exhibits_lacking _ _ _ _ _ (sym c.before.before.before.before.before.is-closed.ensures ∙ c.before.before.before.before.if1.false) (sym c.before.found.given.1 ∙ c.before.before.before.displayed.ensures)
+returns-2 : tie.Need-returns-in-Lacks
+returns-2 c = exhibits_lacking _ _ _ _ _ (sym c.before.before.before.is_closed.ensures ∙ c.before.before.if-is_closed.false) (sym c.in-Lacks.is ∙ c.before.displayed-found.ensures)
 
-returns-3 : tie.Need-returns-3
+returns-3 : tie.Need-returns-in-Bytes
 returns-3 c =
-    let looked = c.before.before.before.before.before.before.before.before in
-    exhibits_there _ _ _ _ _ _ (sym looked.before.before.before.before.is-closed.ensures ∙ looked.before.before.before.if1.false) (sym looked.found2.given.1 ∙ looked.before.before.displayed.ensures)
-    (rw c.before.written.given.1 at c.before.before.before.before.before.put-exhibit.ensures)
+    let looked = c.before.before.before.before.before in
+    exhibits_there _ _ _ _ _ _ (sym looked.before.before.before.is_closed.ensures ∙ looked.before.before.if-is_closed.false) (sym looked.in-Shows.is ∙ looked.before.displayed-found.ensures)
+    (rw c.in-Bytes.is at c.before.before.before.put_exhibit-written.ensures)
 
-returns-4 : tie.Need-returns-4
+returns-4 : tie.Need-returns-in-NoRoom
 returns-4 c =
-    let looked = c.before.before.before.before.before.before.before in
-    exhibits_crowded _ _ _ _ _ _ (sym looked.before.before.before.before.is-closed.ensures ∙ looked.before.before.before.if1.false) (sym looked.found2.given.1 ∙ looked.before.before.displayed.ensures)
-    (rw c.enum_told.given.1 at c.before.before.before.before.put-exhibit.ensures)
+    let looked = c.before.before.before.before.before in
+    exhibits_crowded _ _ _ _ _ _ (sym looked.before.before.before.is_closed.ensures ∙ looked.before.before.if-is_closed.false) (sym looked.in-Shows.is ∙ looked.before.displayed-found.ensures)
+    (rw c.in-NoRoom.is at c.before.before.before.put_exhibit-written.ensures)
 
 pub show_spec : {M : Type 1} → statement M
 show_spec =

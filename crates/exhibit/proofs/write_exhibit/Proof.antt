@@ -7,7 +7,7 @@ use Rattle.exhibit.proofs.Exhibiting.{shown-whole}
 use Rattle.exhibit.proofs.write_exhibit.Statement.{statement}
 use Rattle.exhibit.proofs.write_exhibit.Tie as tie
 
-same_length : tie.Need-same-length
+same_length : tie.Need-shape_of-out
 same_length c =
     let c₁ = c.before.before in
     let c₂ = c₁.before.before.before.before in
@@ -18,15 +18,15 @@ same_length c =
     let c₇ = c₆.before.before.before.before in
     let c₈ = c₇.before.before.before.before.before in
     let c₉ = c₈.before.before.before.before in
-    c₁.close-list.auto.0
-    ∙ c₂.write-session.auto.1.0
-    ∙ c₃.write-local.auto.1.0
-    ∙ c₄.write-cookies.auto.1.0
-    ∙ c₅.write-inputs.auto.1.0
-    ∙ c₆.number.auto.0
-    ∙ c₇.labelled.auto.0
-    ∙ c₈.write-windows.auto.1.0
-    ∙ c₉.open-list.auto.0
+    c₁.close_list.auto.out
+    ∙ c₂.write_session-i.auto.out
+    ∙ c₃.write_local-h.auto.out
+    ∙ c₄.write_cookies-g.auto.out
+    ∙ c₅.write_inputs-f.auto.out
+    ∙ c₆.number-e.auto.out
+    ∙ c₇.labelled-c.auto.out
+    ∙ c₈.before.write_windows-b.auto.out
+    ∙ c₉.before.open_list-a.auto.out
 
 returns : tie.Need-returns
 returns c =
@@ -40,21 +40,21 @@ returns c =
     let c₈ = c₇.before.before.before.before.before in
     let c₉ = c₈.before.before.before.before in
     let looked = c₉.before.before.before.before in
-    let a = looked.before.before.args in
-    writes_as (shown-whole (view a.m.now) a.top a.d looked.origin-of.result looked.origin-of.ensures)
-    (opened c₉.open-list.ensures
-    (passed c₈.write-windows.ensures
-    (passed c₇.labelled.ensures
-    (passed c₆.number.ensures
-    (passed c₅.write-inputs.ensures
-    (passed c₄.write-cookies.ensures
-    (passed c₃.write-local.ensures
-    (passed c₂.write-session.ensures
-    (closed c₁.close-list.ensures)))))))))
+    let a = looked.args in
+    writes_as (shown-whole (view a.m.now) a.top a.d looked.before.origin_of-origin.result looked.before.origin_of-origin.ensures)
+    (opened c₉.before.open_list-a.ensures
+    (passed c₈.before.write_windows-b.ensures
+    (passed c₇.labelled-c.ensures
+    (passed c₆.number-e.ensures
+    (passed c₅.write_inputs-f.ensures
+    (passed c₄.write_cookies-g.ensures
+    (passed c₃.write_local-h.ensures
+    (passed c₂.write_session-i.ensures
+    (closed c₁.close_list.ensures)))))))))
 
 pub write_exhibit_spec : {M : Type 1} → statement M
 write_exhibit_spec =
     tie.close
-    (tie.spec (λ c κs. tt) (λ c κs. search rules) (λ c κs. search rules) (λ c. search rules) (λ c κs. search rules) (λ c κs. search rules)
+    (tie.spec (λ c κs. tt) (λ c κs. search rules) (λ c κs. search rules) (λ c κs. search rules) (λ c κs. search rules)
     (λ c κs. search rules) (λ c κs. search rules) (λ c κs. search rules) (λ c κs. search rules) (λ c κs. search rules)
     same_length returns)

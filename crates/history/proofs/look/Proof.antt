@@ -8,6 +8,6 @@ use Rattle.history.proofs.look.Tie as tie
 
 pub look_spec : {M : Type 1} → statement M
 look_spec = tie.close (tie.spec (λ c κs. tt) (λ c κs. tt) (λ c κs. tt)
-    (λ c. let g = c.before.before.before.before.before.args in let a = c.before.before.before.before.active-document in let n = c.before.before.beside in
-    ap (λ (x : Bool). looked x (a.result.row.place, n.result.row.place)) c.both.ensures
+    (λ c. let g = c.args in let a = c.before.before.before.before.active_document-a in let n = c.before.before.beside-n in
+    ap (λ (x : Bool). looked x (a.result.row.place, n.result.row.place)) c.both-found.ensures
     ∙ looks g.q g.w _ a.result.row n.result.row a.result.found n.result.found a.ensures n.ensures))

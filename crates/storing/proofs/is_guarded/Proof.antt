@@ -10,5 +10,5 @@ use Rattle.storing.proofs.is_guarded.Tie as tie
 
 pub is_guarded_spec : {M : Type 1} → statement M
 is_guarded_spec = tie.close (tie.spec (λ c κs. tt) (λ c.
-    let a = c.before.before.args in
+    let a = c.args in
     sym (looked-found c.first.result.found c.first.result.row) ∙ ap is_some c.first.ensures ∙ guarded-found a.h a.c (table host_cookies_in a.m.now)))

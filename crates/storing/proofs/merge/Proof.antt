@@ -14,10 +14,10 @@ use Rattle.storing.proofs.merge.Tie as tie
 returns : tie.Need-returns
 unfolding cookie_merge
 returns c =
-    let a = c.before.before.before.args in
+    let a = c.args in
     c.unguarded.ensures
     ∙ ap (keep (λ (x : Cookie). not (guarded (keep (λ (o : HostCookie). same_host o.host a.h) (table host_cookies_in a.m.now)) x)))
-    (c.before.latest.ensures ∙ ap latest c.before.before.permitted.ensures)
+    (c.before.latest-last.ensures ∙ ap latest c.before.before.permitted-new.ensures)
 
 pub merge_spec : {M : Type 1} → statement M
 merge_spec = tie.close (tie.spec (λ c κs. tt) (λ c κs. tt) (λ c κs. tt) returns)

@@ -13,6 +13,6 @@ use Rattle.storing.proofs.next_input.Tie as tie
 pub next_input_spec : {M : Type 1} → statement M
 next_input_spec = tie.close (tie.spec
     (λ c κs. tt)
-    (λ c. let x = c.before.args in omega (arith, c.tally.ensures, kept-few inputs (λ (i : Input). same_document i.document x.n) x.m.now))
-    (λ c. let x = c.before.args in omega (arith, c.tally.ensures, kept-few inputs (λ (i : Input). same_document i.document x.n) x.m.now))
-    (λ c. let x = c.before.args in ap (λ (k : ℕ). record { document = x.n; arrival = k; news = x.news }) (add-one _ ∙ ap suc c.tally.ensures)))
+    (λ c. let x = c.args in omega (arith, c.tally-earlier.ensures, kept-few inputs (λ (i : Input). same_document i.document x.n) x.m.now))
+    (λ c. let x = c.args in omega (arith, c.tally-earlier.ensures, kept-few inputs (λ (i : Input). same_document i.document x.n) x.m.now))
+    (λ c. let x = c.args in ap (λ (k : ℕ). record { document = x.n; arrival = k; news = x.news }) (add-one _ ∙ ap suc c.tally-earlier.ensures)))

@@ -10,9 +10,9 @@ use Rattle.storing.proofs.put_cookies.Tie as tie
 
 returns : tie.Need-returns
 returns c =
-    let a = c.before.before.args in
+    let a = c.args in
     let cs = cookies_in a.few in
-    let p = c.put_all_lem.ensures in
+    let p = c.put_all.ensures in
     puts-carry cookies (store_all a.h cs) a.m.now _ _ (puts-only (Key cookies) (row_for a.h) cs) p.rows.had (λ e. changes-one cookies (changed cookies (store_all a.h cs)) p.rest (p.rows.rows e))
 
 pub put_cookies_spec : {M : Type 1} → statement M

@@ -5,11 +5,11 @@ use Rattle.stepping.proofs.Carry.{and-puts, and_drops, put-carries, keep-carries
 use Rattle.storing.proofs.store_local.Statement.{statement}
 use Rattle.storing.proofs.store_local.Tie as tie
 
-returns : tie.Need-returns
-returns c = rw (eq-eqb _ _ c.before.before.if1.true) (and-puts local_storage (keep-carries local_storage c.keep.ensures))
+returns : tie.Need-returns-then-v-eq0
+returns c = rw (eq-eqb _ _ c.before.before.if-v-eq0.true) (and-puts local_storage (keep-carries local_storage c.keep.ensures))
 
-returns-2 : tie.Need-returns-2
-returns-2 c = rw (ne_eqb _ _ c.before.before.if1.false) (and_drops local_storage (put-carries local_storage c.put.ensures))
+returns-2 : tie.Need-returns
+returns-2 c = rw (ne_eqb _ _ c.before.before.if-v-eq0.false) (and_drops local_storage (put-carries local_storage c.put.ensures))
 
 pub store_local_spec : {M : Type 1} → statement M
 store_local_spec = tie.close (tie.spec (λ c κs. tt) returns (λ c κs. tt) returns-2)

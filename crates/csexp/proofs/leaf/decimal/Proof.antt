@@ -10,9 +10,6 @@ use Rattle.csexp.proofs.Leaves.{counts-there, counts_not}
 use Rattle.csexp.proofs.Digits.{run_at, number-none, number-zero, number_more, run_none, run_more, run-over, digit-there}
 use Rattle.csexp.proofs.leaf.decimal.Statement.{statement}
 use Rattle.csexp.proofs.leaf.decimal.Tie as tie
-use Rattle.csexp.proofs.leaf.decimal.Reads as reads
-use Rattle.csexp.proofs.leaf.decimal.Lts as lts
-use Rattle.csexp.proofs.leaf.digit.Reads as digit-reads
 
 abbrev invariant-loop : tie.invariant-loop-at
 invariant-loop s at cap f v₀ i₀ v i = (number_at s at ≡ run_at v s i) × (i ≤ length s) × (v ≤ cap)

@@ -8,8 +8,6 @@ use Rattle.csexp.specs.Decode.{same}
 use Rattle.csexp.proofs.Atoms.{same_length, same_more, same_end}
 use Rattle.csexp.proofs.leaf.equal.Statement.{statement}
 use Rattle.csexp.proofs.leaf.equal.Tie as tie
-use Rattle.csexp.proofs.leaf.equal.Reads as reads
-use Rattle.csexp.proofs.leaf.equal.Lts as lts
 
 abbrev invariant-loop : tie.invariant-loop-i
 invariant-loop a b i₀ i = (length a ≡ length b) × (i ≤ length a) × (same a b ≡ same (drop i a) (drop i b))

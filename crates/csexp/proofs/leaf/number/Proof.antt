@@ -5,8 +5,6 @@ use Rattle.csexp.specs.Decode.{numeral}
 use Rattle.csexp.proofs.Atoms.{atom_gives, atom_refuses, numeral_yes, numeral-no}
 use Rattle.csexp.proofs.leaf.number.Statement.{statement}
 use Rattle.csexp.proofs.leaf.number.Tie as tie
-use Rattle.csexp.proofs.leaf.number.Reads as reads
-use Rattle.csexp.proofs.leaf.number.Lts as lts
 
 returns : tie.Need-returns-then-lo-v
 unfolding numeral

@@ -9,9 +9,6 @@ use Rattle.csexp.proofs.write.Steps.{puts_none}
 use Rattle.csexp.proofs.write.Leaves.{puts_one, puts-end}
 use Rattle.csexp.proofs.write.bytes.Statement.{statement}
 use Rattle.csexp.proofs.write.bytes.Tie as tie
-use Rattle.csexp.proofs.write.bytes.Reads as reads
-use Rattle.csexp.proofs.write.bytes.Lts as lts
-use Rattle.csexp.proofs.write.byte.Reads as byte-Reads
 
 abbrev invariant-loop : tie.invariant-loop-i
 invariant-loop out₀ at w p₀ i₀ out p i = (i ≤ length w) × Puts (take i w) out₀ at out p × (length out ≡ length out₀)

@@ -94,10 +94,10 @@ write-windows-at t = and 2 write-windows-kinds.ps (is 2 write-windows-kinds.ps �
 abbrev write-windows-below : ℕ → In 2 write-windows-kinds.ps
 write-windows-below t = and 2 write-windows-kinds.ps (falls 2 write-windows-kinds.ps ◌<◌ μ-write-windows t) write-windows.Pre
 
-abbrev invariant-loop : write-windows-lts.invariant-loop
+abbrev invariant-loop : write-windows-lts.invariant-loop-i
 invariant-loop m out₀ at origin place levels n p₀ i₀ out p i = Passing windows_in (hangs place) (of_window (levels - 1) (view m) origin) m n i out₀ p₀ out p
 
-abbrev decreases-loop : write-windows-lts.decreases-loop
+abbrev decreases-loop : write-windows-lts.decreases-loop-i
 decreases-loop m out₀ at origin place levels n p₀ i₀ out p i = n - i
 
 pub +document_items_write_limited_write_whole_write_window_write_windows_spec : {M : Type 1} → statement M
@@ -106,40 +106,40 @@ pub +document_items_write_limited_write_whole_write_window_write_windows_spec : 
     -- what stands in a window
     (λ t. document-items-lts.spec (active-document-reads.Asked, active-document-reads.Learnt, origin-of-reads.Asked, origin-of-reads.Learnt, same-origin-reads.Asked, same-origin-reads.Learnt, write-whole-below t, write-whole.Post, write-limited-below t, write-limited.Post) (document-items-at t) document-items.Post
     (λ c κs. tt) (λ c κs. tt) (λ c κs. tt)
-    (λ c κs. (omega (arith, c.before.before.before.before.before.before.before.before.requires.0), tt)) (λ c. search rules)
+    (λ c κs. (omega (arith, c.requires.0), tt)) (λ c. search rules)
     (λ c.
-    let a = c.before.before.before.before.before.before.before.before.before.before.before.args in
-    let found = c.before.before.before.before.before.before.before.before.before.active-document in
-    document-whole (view a.m.now) a.origin a.levels found.result.row (looked_yes found.result.found found.result.row found.ensures c.before.before.before.before.before.before.before.before.if1.true)
-    (ap (λ (x : Origin). same_origin x a.origin) (sym c.before.before.before.before.before.before.origin-of.ensures) ∙ sym c.before.before.before.before.before.same-origin.ensures ∙ c.before.before.before.before.if2.true) c.before.before.write-whole.ensures)
-    (λ c κs. (omega (arith, c.before.before.before.before.before.before.before.before.requires.0), tt)) (λ c. search rules)
+    let a = c.args in
+    let found = c.before.before.before.before.before.before.before.before.before.active_document-active in
+    document-whole (view a.m.now) a.origin a.levels found.result.row (looked_yes found.result.found found.result.row found.ensures c.before.before.before.before.before.before.before.before.if-active.true)
+    (ap (λ (x : Origin). same_origin x a.origin) (sym c.before.before.before.before.before.before.origin_of-its.ensures) ∙ sym c.before.before.before.before.before.same_origin.ensures ∙ c.before.before.before.before.if-same_origin.true) c.before.before.write_whole.ensures)
+    (λ c κs. (omega (arith, c.requires.0), tt)) (λ c. search rules)
     (λ c.
-    let a = c.before.before.before.before.before.before.before.before.before.before.before.args in
-    let found = c.before.before.before.before.before.before.before.before.before.active-document in
-    document_limited (view a.m.now) a.origin a.levels found.result.row (looked_yes found.result.found found.result.row found.ensures c.before.before.before.before.before.before.before.before.if1.true)
-    (ap (λ (x : Origin). same_origin x a.origin) (sym c.before.before.before.before.before.before.origin-of.ensures) ∙ sym c.before.before.before.before.before.same-origin.ensures ∙ c.before.before.before.before.if2.false) c.before.before.write-limited.ensures)
+    let a = c.args in
+    let found = c.before.before.before.before.before.before.before.before.before.active_document-active in
+    document_limited (view a.m.now) a.origin a.levels found.result.row (looked_yes found.result.found found.result.row found.ensures c.before.before.before.before.before.before.before.before.if-active.true)
+    (ap (λ (x : Origin). same_origin x a.origin) (sym c.before.before.before.before.before.before.origin_of-its.ensures) ∙ sym c.before.before.before.before.before.same_origin.ensures ∙ c.before.before.before.before.if-same_origin.false) c.before.before.write_limited.ensures)
     (λ c.
-    let a = c.before.before.before.args in
-    let found = c.before.active-document in
-    document-none (view a.m.now) a.origin a.levels (looked-no found.result.found found.result.row found.ensures c.if1.false) (absent _ _ (omega arith))))
+    let a = c.args in
+    let found = c.before.active_document-active in
+    document-none (view a.m.now) a.origin a.levels (looked-no found.result.found found.result.row found.ensures c.if-active.false) (absent _ _ (omega arith))))
     -- a document of another origin
     (λ t. write-limited-lts.spec (open-list-reads.Asked, open-list-reads.Learnt, labelled-reads.Asked, labelled-reads.Learnt, write-windows-below t, write-windows.Post, close-list-reads.Asked, close-list-reads.Learnt) (write-limited-at t) write-limited.Post
-    (λ c κs. search rules) (λ c. search rules) (λ c κs. search rules) (λ c κs. (omega (arith, c.before.before.before.before.before.before.before.before.before.before.before.before.requires.0), tt)) (λ c κs. search rules) (λ c. search rules)
+    (λ c κs. search rules) (λ c κs. search rules) (λ c κs. (omega (arith, c.requires.0), tt)) (λ c κs. search rules) (λ c. search rules)
     (λ c.
     let c₁ = c.before.before in
     let c₂ = c₁.before.before.before.before in
     let c₃ = c₂.before.before.before.before in
     let c₄ = c₃.before.before.before.before.before in
-    (opened c₄.open-list.ensures
-    (passed c₃.labelled.ensures
-    (passed c₂.write-windows.ensures
-    (closed c₁.close-list.ensures))))))
+    (opened c₄.before.open_list-a.ensures
+    (passed c₃.labelled-b.ensures
+    (passed c₂.write_windows-c.ensures
+    (closed c₁.close_list.ensures))))))
     -- one of the script's own
     (λ t. write-whole-lts.spec (open-list-reads.Asked, open-list-reads.Learnt, labelled-reads.Asked, labelled-reads.Learnt, write-url-reads.Asked, write-url-reads.Learnt, empty-list-reads.Asked, empty-list-reads.Learnt, write-referrer-reads.Asked, write-referrer-reads.Learnt, number-reads.Asked, number-reads.Learnt, write-inputs-reads.Asked, write-inputs-reads.Learnt, write-windows-below t, write-windows.Post, word-reads.Asked, word-reads.Learnt, close-list-reads.Asked, close-list-reads.Learnt) (write-whole-at t) write-whole.Post
-    (λ c κs. search rules) (λ c. search rules) (λ c κs. search rules) (λ c κs. search rules) (λ c κs. search rules) (λ c κs. search rules)
+    (λ c κs. search rules) (λ c κs. search rules) (λ c κs. search rules) (λ c κs. search rules) (λ c κs. search rules)
     (λ c κs. search rules) (λ c κs. search rules) (λ c κs. search rules)
-    (λ c κs. (omega (arith, c.before.before.before.before.before.before.before.before.before.before.before.before.before.before.before.before.before.before.before.before.before.before.before.before.before.before.before.before.before.before.before.before.before.before.before.before.before.before.before.requires.0), tt))
-    (λ c. search rules) (λ c κs. search rules) (λ c κs. search rules)
+    (λ c κs. (omega (arith, c.requires.0), tt))
+    (λ c κs. search rules) (λ c κs. search rules)
     (λ c.
     let c₁ = c.before.before in
     let c₂ = c₁.before.before.before.before in
@@ -152,17 +152,17 @@ pub +document_items_write_limited_write_whole_write_window_write_windows_spec : 
     let c₉ = c₈.before.before.before.before in
     let c₁₀ = c₉.before.before.before.before in
     let c₁₁ = c₁₀.before.before.before.before.before in
-    c₁.close-list.auto.0
-    ∙ c₂.word.auto.0
-    ∙ c₃.write-windows.auto.1.0
-    ∙ c₄.write-inputs.auto.1.0
-    ∙ c₅.number2.auto.0
-    ∙ c₆.number.auto.0
-    ∙ c₇.write-referrer.auto.0
-    ∙ c₈.empty-list.auto.0
-    ∙ c₉.write-url.auto.0
-    ∙ c₁₀.labelled.auto.0
-    ∙ c₁₁.open-list.auto.0)
+    c₁.close_list.auto.out
+    ∙ c₂.word-k.auto.out
+    ∙ c₃.before.write_windows-j.auto.out
+    ∙ c₄.before.write_inputs-i.auto.out
+    ∙ c₅.before.number-h.auto.out
+    ∙ c₆.before.number-g.auto.out
+    ∙ c₇.before.write_referrer-f.auto.out
+    ∙ c₈.before.empty_list-e.auto.out
+    ∙ c₉.before.write_url-c.auto.out
+    ∙ c₁₀.before.labelled-b.auto.out
+    ∙ c₁₁.before.before.open_list-a.auto.out)
     (λ c.
     let c₁ = c.before.before in
     let c₂ = c₁.before.before.before.before in
@@ -175,21 +175,21 @@ pub +document_items_write_limited_write_whole_write_window_write_windows_spec : 
     let c₉ = c₈.before.before.before.before in
     let c₁₀ = c₉.before.before.before.before in
     let c₁₁ = c₁₀.before.before.before.before.before in
-    (opened c₁₁.open-list.ensures
-    (passed c₁₀.labelled.ensures
-    (passed c₉.write-url.ensures
-    (passed c₈.empty-list.ensures
-    (passed c₇.write-referrer.ensures
-    (passed c₆.number.ensures
-    (passed c₅.number2.ensures
-    (passed c₄.write-inputs.ensures
-    (passed c₃.write-windows.ensures
-    (passed c₂.word.ensures
-    (closed c₁.close-list.ensures)))))))))))))
+    (opened c₁₁.before.before.open_list-a.ensures
+    (passed c₁₀.before.labelled-b.ensures
+    (passed c₉.before.write_url-c.ensures
+    (passed c₈.before.empty_list-e.ensures
+    (passed c₇.before.write_referrer-f.ensures
+    (passed c₆.before.number-g.ensures
+    (passed c₅.before.number-h.ensures
+    (passed c₄.before.write_inputs-i.ensures
+    (passed c₃.before.write_windows-j.ensures
+    (passed c₂.word-k.ensures
+    (closed c₁.close_list.ensures)))))))))))))
     -- a window
     (λ t. write-window-lts.spec (open-list-reads.Asked, open-list-reads.Learnt, labelled-reads.Asked, labelled-reads.Learnt, document-items-below t, document-items.Post, close-list-reads.Asked, close-list-reads.Learnt, write-opener-reads.Asked, write-opener-reads.Learnt) (write-window-at t) write-window.Post
-    (λ c κs. search rules) (λ c. search rules) (λ c κs. search rules) (λ c κs. search rules)
-    (λ c κs. (omega (arith, c.before.before.before.before.before.before.before.before.before.before.before.before.before.before.before.before.requires.0), tt))
+    (λ c κs. search rules) (λ c κs. search rules) (λ c κs. search rules)
+    (λ c κs. (omega (arith, c.requires.0), tt))
     (λ c κs. search rules) (λ c κs. search rules) (λ c κs. search rules)
     (λ c.
     let c₁ = c.before.before in
@@ -199,13 +199,13 @@ pub +document_items_write_limited_write_whole_write_window_write_windows_spec : 
     let c₅ = c₄.before.before.before.before in
     let c₆ = c₅.before.before.before.before in
     let c₇ = c₆.before.before.before.before.before in
-    c₁.close-list2.auto.0
-    ∙ c₂.write-opener.auto.0
-    ∙ c₃.close-list.auto.0
-    ∙ c₄.document-items.auto.1.0
-    ∙ c₅.open-list2.auto.0
-    ∙ c₆.labelled.auto.0
-    ∙ c₇.open-list.auto.0)
+    c₁.close_list.auto.out
+    ∙ c₂.write_opener-f.auto.out
+    ∙ c₃.close_list-e.auto.out
+    ∙ c₄.document_items-d.auto.out
+    ∙ c₅.open_list-c.auto.out
+    ∙ c₆.labelled-b.auto.out
+    ∙ c₇.before.open_list-a.auto.out)
     (λ c.
     let c₁ = c.before.before in
     let c₂ = c₁.before.before.before.before in
@@ -214,30 +214,30 @@ pub +document_items_write_limited_write_whole_write_window_write_windows_spec : 
     let c₅ = c₄.before.before.before.before in
     let c₆ = c₅.before.before.before.before in
     let c₇ = c₆.before.before.before.before.before in
-    (opened c₇.open-list.ensures
-    (passed c₆.labelled.ensures
-    (passed (opened c₅.open-list2.ensures
-    (ended c₄.document-items.ensures c₃.close-list.ensures))
-    (passed c₂.write-opener.ensures
-    (closed c₁.close-list2.ensures)))))))
+    (opened c₇.before.open_list-a.ensures
+    (passed c₆.labelled-b.ensures
+    (passed (opened c₅.open_list-c.ensures
+    (ended c₄.document_items-d.ensures c₃.close_list-e.ensures))
+    (passed c₂.write_opener-f.ensures
+    (closed c₁.close_list.ensures)))))))
     -- a list of windows
     (λ t. write-windows-lts.spec (empty-list-reads.Asked, empty-list-reads.Learnt, size-reads.Asked, size-reads.Learnt, open-list-reads.Asked, open-list-reads.Learnt, row_reads.Asked, row_reads.Learnt, hangs-under-reads.Asked, hangs-under-reads.Learnt, write-window-below t, write-window.Post, close-list-reads.Asked, close-list-reads.Learnt) (write-windows-at t) write-windows.Post invariant-loop decreases-loop
     (λ c κs. search rules) (λ c. search rules)
-    (λ c. let a = c.before.before.before.before.before.before.args in windows-none (view a.m.now) a.origin a.place c.before.before.before.before.if1.true c.before.before.empty-list.ensures)
+    (λ c. let a = c.args in windows-none (view a.m.now) a.origin a.place c.before.before.before.before.if-levels-eq0.true c.before.before.empty_list.ensures)
     (λ c κs. tt) (λ c κs. search rules)
-    (λ c. pass_start _ _ c.before.before.before.before.size.ensures (omega arith))
+    (λ c. pass_start _ _ c.before.before.before.before.size-n.ensures (omega arith))
     (λ c κs. tt) (λ c κs. tt)
-    (λ c. omega (arith, c.before.before.before.before.before.before.before.before.before.before.before.if1.false))
-    (λ c κs. (omega (arith, c.before.before.before.before.before.before.before.before.before.before.before.if1.false, c.before.before.before.before.before.before.before.before.before.before.before.before.before.requires.0), tt))
+    (λ c. omega (arith, c.before.before.before.before.before.before.before.before.before.before.before.if-levels-eq0.false))
+    (λ c κs. (omega (arith, c.before.before.before.before.before.before.before.before.before.before.before.if-levels-eq0.false, c.requires.0), tt))
     (λ c. omega arith) (λ c. omega arith)
     (λ c.
     let at = c.before.before.before.before in
-    pass_takes at.before.before.before.before.loop.invariant at.before.before.row.ensures (omega arith) (sym at.before.hangs-under.ensures ∙ at.if2.true) c.before.before.write-window.ensures c.before.before.write-window.auto.1.0)
+    pass_takes at.before.before.before.before.loop-i.invariant at.before.before.row-row.ensures (omega arith) (sym at.before.hangs_under.ensures ∙ at.if-hangs_under.true) c.before.before.write_window-p.ensures c.before.before.write_window-p.auto.out)
     (λ c. omega arith) (λ c. omega arith)
-    (λ c. pass_skips c.before.before.before.before.loop.invariant c.before.before.row.ensures (omega arith) (sym c.before.hangs-under.ensures ∙ c.if2.false))
+    (λ c. pass_skips c.before.before.before.before.loop-i.invariant c.before.before.row-row.ensures (omega arith) (sym c.before.hangs_under.ensures ∙ c.if-hangs_under.false))
     (λ c κs. search rules)
-    (λ c. let l = c.before.before.before.before.before in c.before.before.close-list.auto.0 ∙ l.loop.invariant.same ∙ l.before.before.before.open-list.auto.0)
+    (λ c. let l = c.before.before.before.before.before in c.before.before.close_list.auto.out ∙ l.loop-i.invariant.same ∙ l.before.before.before.open_list-p.auto.out)
     (λ c.
     let l = c.before.before.before.before.before in
-    let a = l.before.before.before.before.before.before.before.before.args in
-    windows-all (view a.m.now) a.origin a.place l.before.before.before.before.before.before.if1.false l.before.before.before.open-list.ensures (pass_end l.loop.invariant (omega arith)) c.before.before.close-list.ensures))
+    let a = l.args in
+    windows-all (view a.m.now) a.origin a.place l.before.before.before.before.before.before.if-levels-eq0.false l.before.before.before.open_list-p.ensures (pass_end l.loop-i.invariant (omega arith)) c.before.before.close_list.ensures))

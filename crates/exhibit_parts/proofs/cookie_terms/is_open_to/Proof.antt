@@ -3,7 +3,7 @@ use Rattle.exhibit_parts.proofs.cookie_terms.is_open_to.Statement.{statement}
 use Rattle.exhibit_parts.proofs.cookie_terms.is_open_to.Tie as tie
 
 returns : tie.Need-returns
-returns c = rw (c.both2.ensures, c.before.before.before.both.ensures, c.before.before.before.before.Goes-over.ensures, c.before.before.before.before.before.not.ensures)
+returns c = rw (c.both.ensures, c.before.before.before.both-may.ensures, c.before.before.before.before.goes_over-goes.ensures, c.before.before.before.before.before.not-open.ensures)
 
 pub is_open_to_spec : {M : Type 1} → statement M
 is_open_to_spec =

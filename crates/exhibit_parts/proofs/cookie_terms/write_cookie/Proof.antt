@@ -7,7 +7,7 @@ use Rattle.exhibit_parts.proofs.cookie_terms.write_cookie.Statement.{statement}
 use Rattle.exhibit_parts.proofs.cookie_terms.write_cookie.Tie as tie
 
 returns : tie.Need-returns
-returns c = writes_as (ap pair_term c.before.before.before.before.pair_of.ensures) c.before.before.write-pair.ensures
+returns c = writes_as (ap pair_term c.before.before.before.before.pair_of-pair.ensures) c.before.before.write_pair.ensures
 
 pub write_cookie_spec : {M : Type 1} → statement M
 write_cookie_spec =

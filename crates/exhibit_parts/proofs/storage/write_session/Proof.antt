@@ -7,17 +7,17 @@ use Rattle.wim.specs.Shown.{session_term}
 use Rattle.exhibit_parts.proofs.storage.write_session.Statement.{statement}
 use Rattle.exhibit_parts.proofs.storage.write_session.Tie as tie
 
-returns : tie.Need-returns
+returns : tie.Need-returns-then-kept
 returns c =
     let at = c.before.before.before.before.before.before in
-    let found = at.before.first in
-    writes_as (ap session_term (looked_yes found.result.found found.result.row found.ensures at.if1.true)) c.before.before.optional.ensures
+    let found = at.before.first-kept in
+    writes_as (ap session_term (looked_yes found.result.found found.result.row found.ensures at.if-kept.true)) c.before.before.optional.ensures
 
-returns-2 : tie.Need-returns-2
+returns-2 : tie.Need-returns
 returns-2 c =
     let at = c.before.before.before.before in
-    let found = at.before.first in
-    writes_as (ap session_term (looked-no found.result.found found.result.row found.ensures at.if1.false)) c.before.before.empty-list.ensures
+    let found = at.before.first-kept in
+    writes_as (ap session_term (looked-no found.result.found found.result.row found.ensures at.if-kept.false)) c.before.before.empty_list.ensures
 
 pub write_session_spec : {M : Type 1} → statement M
 write_session_spec =

@@ -10,13 +10,13 @@ returns c =
     let c₂ = c₁.before.before.before.before in
     let c₃ = c₂.before.before.before.before in
     let c₄ = c₃.before.before.before.before in
-    (opened-word c₄.open-word.ensures
-    (passed c₃.write-body.ensures
-    (passed c₂.write-matching.ensures
-    (closed c₁.close-list.ensures))))
+    (opened-word c₄.open_word-a.ensures
+    (passed c₃.write_body-b.ensures
+    (passed c₂.write_matching-c.ensures
+    (closed c₁.close_list.ensures))))
 
 pub write_answered_spec : {M : Type 1} → statement M
 write_answered_spec =
     tie.close
-    (tie.spec (λ c. search rules) (λ c κs. search rules) (λ c κs. search rules) (λ c κs. search rules) (λ c κs. search rules)
+    (tie.spec (λ c κs. search rules) (λ c κs. search rules) (λ c κs. search rules) (λ c κs. search rules)
     (λ c. search rules) returns)

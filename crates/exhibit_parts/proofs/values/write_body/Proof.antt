@@ -3,11 +3,11 @@ use borrow.Author.Rules.{rules}
 use Rattle.exhibit_parts.proofs.values.write_body.Statement.{statement}
 use Rattle.exhibit_parts.proofs.values.write_body.Tie as tie
 
-returns : tie.Need-returns
-returns c = rw c.before.before.before.before.before.body.given.1 c.before.before.number.ensures
+returns : tie.Need-returns-in-Number
+returns c = rw c.before.before.before.before.in-Number.is c.before.before.number.ensures
 
-returns-2 : tie.Need-returns-2
-returns-2 c = rw c.before.before.before.before.before.body2.given.1 c.before.before.write-page.ensures
+returns-2 : tie.Need-returns-in-Page
+returns-2 c = rw c.before.before.before.before.in-Page.is c.before.before.write_page.ensures
 
 pub write_body_spec : {M : Type 1} → statement M
 write_body_spec =

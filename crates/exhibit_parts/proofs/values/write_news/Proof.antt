@@ -3,11 +3,11 @@ use borrow.Author.Rules.{rules}
 use Rattle.exhibit_parts.proofs.values.write_news.Statement.{statement}
 use Rattle.exhibit_parts.proofs.values.write_news.Tie as tie
 
-returns : tie.Need-returns
-returns c = rw c.before.before.before.before.before.news.given.1 c.before.before.write-answered.ensures
+returns : tie.Need-returns-in-Answered
+returns c = rw c.before.before.before.before.in-Answered.is c.before.before.write_answered.ensures
 
-returns-2 : tie.Need-returns-2
-returns-2 c = rw c.before.before.before.before.before.news2.given.1 c.before.before.write-posted.ensures
+returns-2 : tie.Need-returns-in-Posted
+returns-2 c = rw c.before.before.before.before.in-Posted.is c.before.before.write_posted.ensures
 
 pub write_news_spec : {M : Type 1} → statement M
 write_news_spec =

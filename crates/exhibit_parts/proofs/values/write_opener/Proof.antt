@@ -3,14 +3,14 @@ use borrow.Author.Rules.{rules}
 use Rattle.exhibit_parts.proofs.values.write_opener.Statement.{statement}
 use Rattle.exhibit_parts.proofs.values.write_opener.Tie as tie
 
-returns : tie.Need-returns
-returns c = rw c.before.before.before.before.enum_told.given.1 c.before.before.empty-list.ensures
+returns : tie.Need-returns-in-Nobody
+returns c = rw c.before.before.before.before.in-Nobody.is c.before.before.empty_list.ensures
 
-returns-2 : tie.Need-returns-2
-returns-2 c = rw c.before.before.before.before.before.before.opener.given.1 c.before.before.labelled.ensures
+returns-2 : tie.Need-returns-in-OpenedBy
+returns-2 c = rw c.before.before.before.before.before.before.in-OpenedBy.is c.before.before.labelled.ensures
 
 pub write_opener_spec : {M : Type 1} → statement M
 write_opener_spec =
     tie.close
-    (tie.spec (λ c. search rules) (λ c κs. search rules) (λ c. search rules) (λ c. search rules) (λ c κs. search rules)
+    (tie.spec (λ c. search rules) (λ c κs. search rules) (λ c. search rules) (λ c κs. search rules)
     (λ c. search rules) returns (λ c. search rules) returns-2)

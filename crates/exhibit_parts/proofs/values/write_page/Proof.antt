@@ -10,10 +10,10 @@ returns c =
     let c₂ = c₁.before.before.before.before in
     let c₃ = c₂.before.before.before.before in
     let c₄ = c₃.before.before.before.before in
-    (opened c₄.open-list.ensures
-    (passed c₃.number.ensures
-    (passed c₂.number2.ensures
-    (closed c₁.close-list.ensures))))
+    (opened c₄.open_list-a.ensures
+    (passed c₃.number-b.ensures
+    (passed c₂.number-c.ensures
+    (closed c₁.close_list.ensures))))
 
 pub write_page_spec : {M : Type 1} → statement M
 write_page_spec =

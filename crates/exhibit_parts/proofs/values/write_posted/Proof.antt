@@ -11,14 +11,14 @@ returns c =
     let c₃ = c₂.before.before.before.before in
     let c₄ = c₃.before.before.before.before in
     let c₅ = c₄.before.before.before.before.before in
-    (opened-word c₅.open-word.ensures
-    (passed c₄.labelled.ensures
-    (passed c₃.write-origin.ensures
-    (passed c₂.number.ensures
-    (closed c₁.close-list.ensures)))))
+    (opened-word c₅.before.open_word-a.ensures
+    (passed c₄.labelled-b.ensures
+    (passed c₃.write_origin-c.ensures
+    (passed c₂.number-d.ensures
+    (closed c₁.close_list.ensures)))))
 
 pub write_posted_spec : {M : Type 1} → statement M
 write_posted_spec =
     tie.close
-    (tie.spec (λ c. search rules) (λ c κs. search rules) (λ c. search rules) (λ c κs. search rules) (λ c κs. search rules)
+    (tie.spec (λ c κs. search rules) (λ c κs. search rules) (λ c κs. search rules)
     (λ c κs. search rules) (λ c κs. search rules) (λ c. search rules) returns)

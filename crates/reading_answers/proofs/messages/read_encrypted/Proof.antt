@@ -15,5 +15,5 @@ returns c =
 pub read_encrypted_spec : {M : Type 1} → statement M
 read_encrypted_spec =
     tie.close
-    (tie.spec (λ c κs. search rules) (λ c κs. search rules) (λ c κs. search rules) 
+    (tie.spec (λ c κs. search rules) (λ c κs. search rules) (λ c κs. search rules)
     (λ c κs. search rules) (λ c κs. search rules) returns)

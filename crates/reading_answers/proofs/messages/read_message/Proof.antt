@@ -23,5 +23,5 @@ returns-4 c =
 pub read_message_spec : {M : Type 1} → statement M
 read_message_spec =
     tie.close
-    (tie.spec (λ c κs. search rules) returns (λ c κs. search rules) returns-2 (λ c κs. search rules) returns-3 
+    (tie.spec (λ c κs. search rules) returns (λ c κs. search rules) returns-2 (λ c κs. search rules) returns-3
     (λ c κs. search rules) returns-4)

@@ -10,24 +10,24 @@ use Rattle.stepping.proofs.Ways.{performs_as, refuses, asked}
 use Rattle.responses.proofs.answers.encrypted_answer.Statement.{statement}
 use Rattle.responses.proofs.answers.encrypted_answer.Tie as tie
 
-returns : tie.Need-returns
+returns : tie.Need-returns-then-found
 unfolding observed
 returns c =
-    let x = c.before.before.before.before.before.before.args in
+    let x = c.args in
     let k = encrypted_answer x.a (cookies_in x.few) in
-    let found = c.before.before.before.before.first.result in
+    let found = c.before.before.before.before.first-found.result in
     performs_as (ask (keyed x.k) k) (k (some found.row))
-    (asked (keyed x.k) k (view x.m.now) (fresh_labels x.f) (some found.row) (looked_yes found.found found.row {o = observed (keyed x.k) (view x.m.now)} c.before.before.before.before.first.ensures c.before.before.before.if1.true))
+    (asked (keyed x.k) k (view x.m.now) (fresh_labels x.f) (some found.row) (looked_yes found.found found.row {o = observed (keyed x.k) (view x.m.now)} c.before.before.before.before.first-found.ensures c.before.before.before.if-found.true))
     c.opened.ensures
 
-returns-2 : tie.Need-returns-2
+returns-2 : tie.Need-returns
 unfolding observed run encrypted_answer
 returns-2 c =
-    let x = c.before.before.before.before.args in
+    let x = c.args in
     let k = encrypted_answer x.a (cookies_in x.few) in
-    let found = c.before.before.first.result in
+    let found = c.before.before.first-found.result in
     refuses (ask (keyed x.k) k) x.f
-    (asked (keyed x.k) k (view x.m.now) (fresh_labels x.f) none (looked-no found.found found.row {o = observed (keyed x.k) (view x.m.now)} c.before.before.first.ensures c.before.if1.false))
+    (asked (keyed x.k) k (view x.m.now) (fresh_labels x.f) none (looked-no found.found found.row {o = observed (keyed x.k) (view x.m.now)} c.before.before.first-found.ensures c.before.if-found.false))
     c.refuse.ensures
 
 pub encrypted_answer_spec : {M : Type 1} → statement M

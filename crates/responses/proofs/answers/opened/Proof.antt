@@ -13,21 +13,21 @@ use Rattle.responses.proofs.Encrypted.{matches}
 use Rattle.responses.proofs.answers.opened.Statement.{statement}
 use Rattle.responses.proofs.answers.opened.Tie as tie
 
-returns : tie.Need-returns
+returns : tie.Need-returns-then-own-n
 returns c =
-    let x = c.before.before.before.before.before.before.before.before.args in
+    let x = c.args in
     let new = cookies_in x.few in
     performs_as (encrypted_answer x.a new (some x.w)) (process_response x.w.reference x.w x.a new)
-    (matches x.a new x.w (view x.m.now) (fresh_labels x.f) true (eq-eqb _ _ c.before.before.if1.true))
-    c.process-response.ensures
+    (matches x.a new x.w (view x.m.now) (fresh_labels x.f) true (eq-eqb _ _ c.before.before.if-own-n.true))
+    c.process_response.ensures
 
-returns-2 : tie.Need-returns-2
+returns-2 : tie.Need-returns
 unfolding run
 returns-2 c =
-    let x = c.before.before.before.before.before.before.before.args in
+    let x = c.args in
     let new = cookies_in x.few in
     refuses (encrypted_answer x.a new (some x.w)) x.f
-    (matches x.a new x.w (view x.m.now) (fresh_labels x.f) false (ne_eqb _ _ c.before.if1.false))
+    (matches x.a new x.w (view x.m.now) (fresh_labels x.f) false (ne_eqb _ _ c.before.if-own-n.false))
     c.refuse.ensures
 
 pub opened_spec : {M : Type 1} → statement M

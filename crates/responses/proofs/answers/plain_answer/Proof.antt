@@ -10,24 +10,24 @@ use Rattle.stepping.proofs.Ways.{performs_as, refuses, asked}
 use Rattle.responses.proofs.answers.plain_answer.Statement.{statement}
 use Rattle.responses.proofs.answers.plain_answer.Tie as tie
 
-returns : tie.Need-returns
+returns : tie.Need-returns-then-found
 unfolding observed plain_answer
 returns c =
-    let x = c.before.before.before.before.before.before.before.args in
+    let x = c.args in
     let k = plain_answer x.a (cookies_in x.few) in
-    let found = c.before.before.before.before.first.result in
+    let found = c.before.before.before.before.first-found.result in
     performs_as (ask (keyless x.a.number) k) (k (some found.row))
-    (asked (keyless x.a.number) k (view x.m.now) (fresh_labels x.f) (some found.row) (looked_yes found.found found.row {o = observed (keyless x.a.number) (view x.m.now)} c.before.before.before.before.first.ensures c.before.before.before.if1.true))
-    c.process-response.ensures
+    (asked (keyless x.a.number) k (view x.m.now) (fresh_labels x.f) (some found.row) (looked_yes found.found found.row {o = observed (keyless x.a.number) (view x.m.now)} c.before.before.before.before.first-found.ensures c.before.before.before.if-found.true))
+    c.process_response.ensures
 
-returns-2 : tie.Need-returns-2
+returns-2 : tie.Need-returns
 unfolding observed run plain_answer
 returns-2 c =
-    let x = c.before.before.before.before.before.args in
+    let x = c.args in
     let k = plain_answer x.a (cookies_in x.few) in
-    let found = c.before.before.first.result in
+    let found = c.before.before.first-found.result in
     refuses (ask (keyless x.a.number) k) x.f
-    (asked (keyless x.a.number) k (view x.m.now) (fresh_labels x.f) none (looked-no found.found found.row {o = observed (keyless x.a.number) (view x.m.now)} c.before.before.first.ensures c.before.if1.false))
+    (asked (keyless x.a.number) k (view x.m.now) (fresh_labels x.f) none (looked-no found.found found.row {o = observed (keyless x.a.number) (view x.m.now)} c.before.before.first-found.ensures c.before.if-found.false))
     c.refuse.ensures
 
 pub plain_answer_spec : {M : Type 1} → statement M

@@ -10,15 +10,15 @@ use Rattle.responses.proofs.Deciding.{decides_at}
 use Rattle.responses.proofs.courses.script_course.Statement.{statement}
 use Rattle.responses.proofs.courses.script_course.Tie as tie
 
-returns : tie.Need-returns
+returns : tie.Need-returns-in-Nowhere
 returns c =
-    let x = c.before.before.before.before.before.args in
-    decides_at x.a (λ (o : Option Url). script_at (view x.m.now) x.matching o (observed (listening x.n) (view x.m.now))) (sym c.before.before.before.where_to.ensures ∙ ap toward c.before.enum_told.given.1) c.heard-course.ensures
+    let x = c.args in
+    decides_at x.a (λ (o : Option Url). script_at (view x.m.now) x.matching o (observed (listening x.n) (view x.m.now))) (sym c.before.before.where_to-to.ensures ∙ ap toward c.before.in-Nowhere.is) c.heard_course.ensures
 
-returns-2 : tie.Need-returns-2
+returns-2 : tie.Need-returns-in-To
 returns-2 c =
-    let x = c.before.before.before.before.before.args in
-    decides_at x.a (λ (o : Option Url). script_at (view x.m.now) x.matching o (observed (listening x.n) (view x.m.now))) (sym c.before.before.before.where_to.ensures ∙ ap toward c.before.enum-told2.given.1) c.alone.ensures
+    let x = c.args in
+    decides_at x.a (λ (o : Option Url). script_at (view x.m.now) x.matching o (observed (listening x.n) (view x.m.now))) (sym c.before.before.where_to-to.ensures ∙ ap toward c.before.in-To.is) c.alone.ensures
 
 pub script_course_spec : {M : Type 1} → statement M
 script_course_spec = tie.close (tie.spec (λ c κs. tt) (λ c. search rules) (λ c κs. tt) (λ c. search rules) (λ c κs. tt) returns returns-2)

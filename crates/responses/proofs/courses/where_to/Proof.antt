@@ -5,13 +5,13 @@ use Rattle.responses.proofs.Deciding.{points}
 use Rattle.responses.proofs.courses.where_to.Statement.{statement}
 use Rattle.responses.proofs.courses.where_to.Tie as tie
 
-returns : tie.Need-returns
+returns : tie.Need-returns-then-is_redirect
 returns c =
-    let x = c.before.before.args in points x.s x.l true (sym c.before.is-redirect.ensures ∙ c.if1.true)
+    let x = c.args in points x.s x.l true (sym c.before.is_redirect.ensures ∙ c.if-is_redirect.true)
 
-returns-2 : tie.Need-returns-2
+returns-2 : tie.Need-returns
 returns-2 c =
-    let x = c.before.before.args in points x.s x.l false (sym c.before.is-redirect.ensures ∙ c.if1.false)
+    let x = c.args in points x.s x.l false (sym c.before.is_redirect.ensures ∙ c.if-is_redirect.false)
 
 pub where_to_spec : {M : Type 1} → statement M
 where_to_spec = tie.close (tie.spec (λ c κs. tt) returns returns-2)

@@ -10,25 +10,25 @@ use Rattle.responses.proofs.Deciding.{decides_window}
 use Rattle.responses.proofs.courses.window_course.Statement.{statement}
 use Rattle.responses.proofs.courses.window_course.Tie as tie
 
-returns : tie.Need-returns
+returns : tie.Need-returns-in-Nowhere
 returns c =
-    let x = c.before.before.before.before.before.before.before.args in
-    let top = c.before.before.before.before.before.before.reached.result in
-    decides_window x.a (view x.m.now) x.v (some top.window) none (looked_yes top.found top.window c.before.before.before.before.before.before.reached.ensures c.before.before.before.before.before.if1.true)
-    (ap toward (sym c.before.enum_told.given.1) ∙ c.before.before.before.where_to.ensures) c.body-course.ensures
+    let x = c.args in
+    let top = c.before.before.before.before.before.reached-top.result in
+    decides_window x.a (view x.m.now) x.v (some top.window) none (looked_yes top.found top.window c.before.before.before.before.before.reached-top.ensures c.before.before.before.before.if-top.true)
+    (ap toward (sym c.before.in-Nowhere.is) ∙ c.before.before.where_to-to.ensures) c.body_course.ensures
 
-returns-2 : tie.Need-returns-2
+returns-2 : tie.Need-returns-in-To
 returns-2 c =
-    let x = c.before.before.before.before.before.before.before.before.args in
-    let top = c.before.before.before.before.before.before.before.reached.result in
-    decides_window x.a (view x.m.now) x.v (some top.window) (some c.before.before.to.given.0.0) (looked_yes top.found top.window c.before.before.before.before.before.before.before.reached.ensures c.before.before.before.before.before.before.if1.true)
-    (ap toward (sym c.before.before.to.given.1) ∙ c.before.before.before.before.where_to.ensures) c.alone.ensures
+    let x = c.args in
+    let top = c.before.before.before.before.before.reached-top.result in
+    decides_window x.a (view x.m.now) x.v (some top.window) (some c.before.in-To.u) (looked_yes top.found top.window c.before.before.before.before.before.reached-top.ensures c.before.before.before.before.if-top.true)
+    (ap toward (sym c.before.in-To.is) ∙ c.before.before.where_to-to.ensures) c.alone.ensures
 
-returns-3 : tie.Need-returns-3
+returns-3 : tie.Need-returns
 returns-3 c =
-    let x = c.before.before.before.args in
-    let top = c.before.before.reached.result in
-    decides_window x.a (view x.m.now) x.v none (where_to x.a.status x.a.location) (looked-no top.found top.window c.before.before.reached.ensures c.before.if1.false) refl c.alone2.ensures
+    let x = c.args in
+    let top = c.before.before.reached-top.result in
+    decides_window x.a (view x.m.now) x.v none (where_to x.a.status x.a.location) (looked-no top.found top.window c.before.before.reached-top.ensures c.before.if-top.false) refl c.alone-2.ensures
 
 pub window_course_spec : {M : Type 1} → statement M
 window_course_spec = tie.close (tie.spec (λ c κs. tt) (λ c κs. tt) (λ c. search rules) (λ c κs. tt) (λ c. search rules) (λ c κs. tt) returns returns-2 (λ c κs. tt) returns-3)

@@ -5,13 +5,13 @@ use Rattle.responses.proofs.Acting.{no_strict}
 use Rattle.responses.proofs.headers.put_strict_if.Statement.{statement}
 use Rattle.responses.proofs.headers.put_strict_if.Tie as tie
 
-returns : tie.Need-returns
+returns : tie.Need-returns-then-there
 returns c =
-    rw c.before.before.if1.true (put-carries sts c.put.ensures)
+    rw c.before.before.if-there.true (put-carries sts c.put.ensures)
 
-returns-2 : tie.Need-returns-2
+returns-2 : tie.Need-returns
 returns-2 c =
-    rw c.if1.false (no_strict _)
+    rw c.if-there.false (no_strict _)
 
 pub put_strict_if_spec : {M : Type 1} → statement M
 put_strict_if_spec = tie.close (tie.spec (λ c κs. tt) returns returns-2)

@@ -17,13 +17,13 @@ use Rattle.responses.proofs.loading.look.Tie as tie
 returns : tie.Need-returns
 unfolding active_document
 returns c =
-    let x = c.before.before.before.before.before.args in
-    let now = c.before.before.before.before.active-document.ensures in
+    let x = c.args in
+    let now = c.before.before.before.before.active_document-current.ensures in
     let h = documents_of (table documents_in x.m.now) x.v in
     record {
-      was = c.before.before.before.place_of.ensures ∙ ap place_of now;
-      place = c.before.before.place-behind.ensures ∙ ap (λ (o : Option Document). suc (length (up_to o h))) now;
-      gone = c.removal.ensures ∙ ap (removal (table windows_in x.m.now) (table documents_in x.m.now)) (c.before.later-than.ensures ∙ ap (λ (o : Option Document). map number_of (later_than o h)) now);
+      was = c.before.before.before.place_of-was.ensures ∙ ap place_of now;
+      place = c.before.before.place_behind-place.ensures ∙ ap (λ (o : Option Document). suc (length (up_to o h))) now;
+      gone = c.removal-gone.ensures ∙ ap (removal (table windows_in x.m.now) (table documents_in x.m.now)) (c.before.later_than-later.ensures ∙ ap (λ (o : Option Document). map number_of (later_than o h)) now);
     }
 
 pub look_spec : {M : Type 1} → statement M

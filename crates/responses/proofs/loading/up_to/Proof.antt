@@ -7,15 +7,15 @@ use Rattle.responses.proofs.Histories.{kept-up-to, kept-all}
 use Rattle.responses.proofs.loading.up_to.Statement.{statement}
 use Rattle.responses.proofs.loading.up_to.Tie as tie
 
-returns : tie.Need-returns
+returns : tie.Need-returns-then-current
 returns c =
-    let x = c.before.before.args in
-    rw c.before.if1.true (c.tally.ensures ∙ ap length (kept-up-to x.v x.current.row (table documents_in x.m.now)))
+    let x = c.args in
+    rw c.before.if-current.true (c.tally.ensures ∙ ap length (kept-up-to x.v x.current.row (table documents_in x.m.now)))
 
-returns-2 : tie.Need-returns-2
+returns-2 : tie.Need-returns
 returns-2 c =
-    let x = c.before.before.args in
-    rw c.before.if1.false (c.tally2.ensures ∙ ap length (kept-all x.v (table documents_in x.m.now)))
+    let x = c.args in
+    rw c.before.if-current.false (c.tally-2.ensures ∙ ap length (kept-all x.v (table documents_in x.m.now)))
 
 pub up_to_spec : {M : Type 1} → statement M
 up_to_spec = tie.close (tie.spec (λ c κs. tt) returns (λ c κs. tt) returns-2)

@@ -9,12 +9,12 @@ use Rattle.responses.proofs.redirecting.origin_kept.Tie as tie
 
 returns : tie.Need-returns
 returns c =
-    let o = c.before.before.before.before.before.before.args.o in
-    let asked = c.before.before.before.before.asked-origin.ensures in
+    let o = c.args.o in
+    let asked = c.before.before.before.before.asked_origin-asked.ensures in
     c.kept_if.ensures
     ∙ ap (λ (x : Bool). cond x (From o) Null)
     (c.before.either.ensures
-    ∙ ap₂ ◌||◌ (c.before.before.before.same-origin.ensures ∙ ap₂ same_origin c.before.before.before.before.before.url-origin.ensures asked) (c.before.before.same-origin2.ensures ∙ ap (λ (y : Origin). same_origin y o) asked))
+    ∙ ap₂ ◌||◌ (c.before.before.before.same_origin-stays.ensures ∙ ap₂ same_origin c.before.before.before.before.before.url_origin-next.ensures asked) (c.before.before.same_origin-own.ensures ∙ ap (λ (y : Origin). same_origin y o) asked))
 
 pub origin_kept_spec : {M : Type 1} → statement M
 origin_kept_spec = tie.close (tie.spec (λ c κs. tt) (λ c κs. tt) (λ c κs. tt) (λ c κs. tt) (λ c κs. tt) (λ c κs. tt) returns)

@@ -5,15 +5,15 @@ use Rattle.responses.proofs.Going.{stale, goes}
 use Rattle.responses.proofs.responses.process_response.Statement.{statement}
 use Rattle.responses.proofs.responses.process_response.Tie as tie
 
-returns : tie.Need-returns
+returns : tie.Need-returns-then-ready
 returns c =
-    let x = c.before.before.before.before.before.before.before.before.before.before.before.args in
-    goes x.w x.a (cookies_in x.few) x.f x.m.now c.before.before.before.before.before.before.before.before.before.course-of.result c.before.before.before.before.before.before.before.before.before.course-of.ensures c.before.before.before.before.before.before.before.wanted.result c.before.before.before.before.before.before.before.wanted.ensures (sym c.before.before.before.before.before.ready.ensures ∙ c.before.before.before.before.if1.true) c.before.before.act-on-headers.ensures c.takes.ensures
+    let x = c.args in
+    goes x.w x.a (cookies_in x.few) x.f x.m.now c.before.before.before.before.before.before.before.before.course_of-plan.result c.before.before.before.before.before.before.before.before.course_of-plan.ensures c.before.before.before.before.before.before.wanted-wants.result c.before.before.before.before.before.before.wanted-wants.ensures (sym c.before.before.before.before.before.ready.ensures ∙ c.before.before.before.before.if-ready.true) c.before.before.act_on_headers-room.ensures c.takes.ensures
 
-returns-2 : tie.Need-returns-2
+returns-2 : tie.Need-returns
 returns-2 c =
-    let x = c.before.before.before.before.before.before.before.before.args in
-    stale x.w x.a (cookies_in x.few) x.f x.m.now c.before.before.before.before.before.before.course-of.result c.before.before.before.before.before.before.course-of.ensures c.before.before.before.before.wanted.result c.before.before.before.before.wanted.ensures (sym c.before.before.ready.ensures ∙ c.before.if1.false) c.refuse.ensures
+    let x = c.args in
+    stale x.w x.a (cookies_in x.few) x.f x.m.now c.before.before.before.before.before.course_of-plan.result c.before.before.before.before.before.course_of-plan.ensures c.before.before.before.wanted-wants.result c.before.before.before.wanted-wants.ensures (sym c.before.before.ready.ensures ∙ c.before.if-ready.false) c.refuse.ensures
 
 pub process_response_spec : {M : Type 1} → statement M
 process_response_spec = tie.close (tie.spec (λ c κs. tt) (λ c κs. tt) (λ c κs. tt) (λ c κs. tt) (λ c κs. tt) returns (λ c κs. tt) returns-2)

@@ -11,15 +11,15 @@ use Rattle.script_loads.proofs.Fetched.{fetch_sends}
 use Rattle.script_loads.proofs.fetching.fetch.Statement.{statement}
 use Rattle.script_loads.proofs.fetching.fetch.Tie as tie
 
-returns : tie.Need-returns
+returns : tie.Need-returns-then-ready
 returns c =
-    let a = c.before.before.before.before.before.before.before.args in
-    ends-sending (storing a.s (send a.o)) a.f a.o wants_send (sym c.before.before.before.before.before.ready.ensures ∙ c.before.before.before.before.if1.true) (fetch_sends a.s a.o a.f (view a.m.now)) c.before.before.store.ensures c.http-send.ensures
+    let a = c.args in
+    ends-sending (storing a.s (send a.o)) a.f a.o wants_send (sym c.before.before.before.before.before.ready.ensures ∙ c.before.before.before.before.if-ready.true) (fetch_sends a.s a.o a.f (view a.m.now)) c.before.before.store-room.ensures c.http_send.ensures
 
-returns-2 : tie.Need-returns-2
+returns-2 : tie.Need-returns
 returns-2 c =
-    let a = c.before.before.before.before.args in
-    stales (storing a.s (send a.o)) a.f wants_send (brings_send a.o) (sym c.before.before.ready.ensures ∙ c.before.if1.false) c.refuse.ensures
+    let a = c.args in
+    stales (storing a.s (send a.o)) a.f wants_send (brings_send a.o) (sym c.before.before.ready.ensures ∙ c.before.if-ready.false) c.refuse.ensures
 
 pub fetch_spec : {M : Type 1} → statement M
 fetch_spec = tie.close (tie.spec (λ c κs. tt) (λ c κs. tt) (λ c κs. tt) returns (λ c κs. tt) returns-2)

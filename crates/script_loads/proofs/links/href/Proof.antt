@@ -5,7 +5,7 @@ use Rattle.script_loads.proofs.links.href.Tie as tie
 
 returns : tie.Need-returns
 returns c =
-    let a = c.before.before.args in
+    let a = c.args in
     href-loads a.s a.url a.target a.f a.m.now a.noreferrer c.navigate.ensures
 
 pub href_spec : {M : Type 1} → statement M

@@ -7,17 +7,17 @@ use Rattle.script_loads.proofs.Linked.{loading}
 use Rattle.script_loads.proofs.navigation.navigate.Statement.{statement}
 use Rattle.script_loads.proofs.navigation.navigate.Tie as tie
 
-returns : tie.Need-returns
+returns : tie.Need-returns-in-NewWindow
 returns c =
-    let a = c.before.before.before.before.args in
-    performs-at (loading a.s a.l) c.before.before.enum_told.given.1 c.into_new.ensures
+    let a = c.args in
+    performs-at (loading a.s a.l) c.before.before.in-NewWindow.is c.into_new.ensures
 
-returns-2 : tie.Need-returns-2
+returns-2 : tie.Need-returns-in-Existing
 returns-2 c =
-    let a = c.before.before.before.before.before.before.before.before.before.args in
-    let t = c.before.before.before.before.before.before.before.target.given in
-    performs-at (loading a.s a.l) t.1
-    (navigates_existing a.s (opener_by a.l a.s.window) (sent_into a.s.document a.l) t.0.0 c.before.before.navigated.result a.f a.m.now c.before.before.navigated.ensures c.into-existing.ensures)
+    let a = c.args in
+    let t = c.before.before.before.before.before.in-Existing in
+    performs-at (loading a.s a.l) t.is
+    (navigates_existing a.s (opener_by a.l a.s.window) (sent_into a.s.document a.l) t.x c.before.before.navigated-v.result a.f a.m.now c.before.before.navigated-v.ensures c.into_existing.ensures)
 
 pub navigate_spec : {M : Type 1} → statement M
 navigate_spec = tie.close (tie.spec (λ c. search rules) (λ c κs. tt) (λ c. search rules) (λ c κs. tt) (λ c κs. tt) returns returns-2)

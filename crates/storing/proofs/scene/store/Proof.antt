@@ -9,10 +9,10 @@ use Rattle.storing.proofs.scene.store.Tie as tie
 
 returns : tie.Need-returns
 returns c =
-    let sessions = c.before.before.before.before.store-session in
-    stores c.before.before.before.before.before.before.before.before.before.before.before.before.before.before.before.before.before.before.before.before.args.s c.before.before.before.before.before.before.before.before.before.before.before.before.before.before.before.before.before.origin-of.result c.before.before.before.before.before.before.before.before.before.before.before.before.before.before.before.before.before.origin-of.ensures
-    c.before.before.before.before.before.before.before.before.put-cookies.ensures c.before.before.before.before.before.before.store-local.ensures sessions.ensures (revised_carries documents c.before.before.revise.ensures)
-    (c.both2.ensures ∙ ap (λ (x : Bool). x && sessions.result) c.before.both.ensures)
+    let sessions = c.before.before.before.before.store_session-sessions in
+    stores c.args.s c.before.before.before.before.before.before.before.before.before.before.before.before.before.before.before.before.before.origin_of-o.result c.before.before.before.before.before.before.before.before.before.before.before.before.before.before.before.before.before.origin_of-o.ensures
+    c.before.before.before.before.before.before.before.before.put_cookies-cookies.ensures c.before.before.before.before.before.before.store_local-locally.ensures sessions.ensures (revised_carries documents c.before.before.revise.ensures)
+    (c.both-2.ensures ∙ ap (λ (x : Bool). x && sessions.result) c.before.both.ensures)
 
 pub store_spec : {M : Type 1} → statement M
 store_spec = tie.close (tie.spec (λ c κs. tt) (λ c κs. tt) (λ c κs. tt) (λ c κs. tt) (λ c κs. tt) (λ c κs. tt) (λ c κs. tt) returns)

@@ -10,10 +10,10 @@ use Rattle.storing.proofs.Names.{named_here, named-further, named_nowhere}
 use Rattle.storing.proofs.setting.named_from.Statement.{statement}
 use Rattle.storing.proofs.setting.named_from.Tie as tie
 
-abbrev invariant-loop : tie.invariant-loop
+abbrev invariant-loop : tie.invariant-loop-i
 invariant-loop from name few n i₀ i = named name (drop i (cookies_in few)) ≡ named name (drop i₀ (cookies_in few))
 
-abbrev decreases-loop : tie.decreases-loop
+abbrev decreases-loop : tie.decreases-loop-i
 decreases-loop from name few n i₀ i = n - i
 
 pub named_from_spec : {M : Type 1} → statement M
@@ -23,11 +23,11 @@ named_from_spec = tie.close (tie.spec invariant-loop decreases-loop
     (λ c. omega arith)
     (λ c. omega arith)
     (λ c κs. tt)
-    (λ c. let a = c.before.before.before.before.before.before.before.args in
-    named_here a.name a.t1.count 4 c.before.before.before.before.before.before.used.result a.t1.rows (search mapped) c.before.before.before.before.before.before.used.ensures c.before.before.before.before.before.loop.i _ (omega arith) (sym c.before.same_name.ensures ∙ c.if1.true) ∙ c.before.before.before.before.before.loop.invariant)
+    (λ c. let a = c.args in
+    named_here a.name a.few.count 4 c.before.before.before.before.before.before.used-n.result a.few.rows (search mapped) c.before.before.before.before.before.before.used-n.ensures c.before.before.before.before.before.loop-i.i _ (omega arith) (sym c.before.same_name.ensures ∙ c.if-same_name.true) ∙ c.before.before.before.before.before.loop-i.invariant)
     (λ c. omega arith)
     (λ c. omega arith)
-    (λ c. let a = c.before.before.before.before.before.before.before.args in
-    named-further a.name a.t1.count 4 c.before.before.before.before.before.before.used.result a.t1.rows (search mapped) c.before.before.before.before.before.before.used.ensures c.before.before.before.before.before.loop.i _ (omega arith) (sym c.before.same_name.ensures ∙ c.if1.false) ∙ c.before.before.before.before.before.loop.invariant)
-    (λ c. let a = c.before.before.before.args in
-    named_nowhere a.name a.t1.count 4 c.before.before.used.result a.t1.rows (search mapped) c.before.before.used.ensures c.before.loop.i (omega arith) ∙ c.before.loop.invariant))
+    (λ c. let a = c.args in
+    named-further a.name a.few.count 4 c.before.before.before.before.before.before.used-n.result a.few.rows (search mapped) c.before.before.before.before.before.before.used-n.ensures c.before.before.before.before.before.loop-i.i _ (omega arith) (sym c.before.same_name.ensures ∙ c.if-same_name.false) ∙ c.before.before.before.before.before.loop-i.invariant)
+    (λ c. let a = c.args in
+    named_nowhere a.name a.few.count 4 c.before.before.used-n.result a.few.rows (search mapped) c.before.before.used-n.ensures c.before.loop-i.i (omega arith) ∙ c.before.loop-i.invariant))

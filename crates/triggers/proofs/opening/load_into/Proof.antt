@@ -15,18 +15,18 @@ use Rattle.sending.proofs.Ways.{sends_only}
 use Rattle.triggers.proofs.opening.load_into.Statement.{statement}
 use Rattle.triggers.proofs.opening.load_into.Tie as tie
 
-returns : tie.Need-returns
+returns : tie.Need-returns-then-ready
 returns c =
-    let a = c.before.before.before.before.before.before.args in
-    let o = c.before.before.sending-to in
+    let a = c.args in
+    let o = c.before.before.sending_to-o in
     performs_as (send (sending_to (Req a.w) a.url Unknown)) (send o.result) (ap (λ (y : Sending). run (send y) (view a.m.now) (fresh_labels a.f)) (sym o.ensures))
-    (sends_only a.f o.result (sym c.before.before.before.before.ready.ensures ∙ c.before.before.before.if1.true) c.http-send.ensures)
+    (sends_only a.f o.result (sym c.before.before.before.before.ready.ensures ∙ c.before.before.before.if-ready.true) c.http_send.ensures)
 
-returns-2 : tie.Need-returns-2
+returns-2 : tie.Need-returns
 returns-2 c =
-    let a = c.before.before.before.before.args in
+    let a = c.args in
     let o = sending_to (Req a.w) a.url Unknown in
-    stales (send o) a.f wants_send (brings_send o) (sym c.before.before.ready.ensures ∙ c.before.if1.false) c.refuse.ensures
+    stales (send o) a.f wants_send (brings_send o) (sym c.before.before.ready.ensures ∙ c.before.if-ready.false) c.refuse.ensures
 
 pub load_into_spec : {M : Type 1} → statement M
 load_into_spec = tie.close (tie.spec (λ c κs. tt) (λ c κs. tt) (λ c κs. tt) returns (λ c κs. tt) returns-2)

@@ -12,16 +12,16 @@ use Rattle.triggers.proofs.Addresses.{brings_new, new-runs}
 use Rattle.triggers.proofs.opening.urlbar_new.Statement.{statement}
 use Rattle.triggers.proofs.opening.urlbar_new.Tie as tie
 
-returns : tie.Need-returns
+returns : tie.Need-returns-then-ready
 returns c =
-    let a = c.before.before.before.before.before.before.before.before.before.before.args in
-    ends-sending (urlbar a.url NewWindow) a.f c.before.before.sending-to.result wants_open (sym c.before.before.before.before.before.before.before.before.ready.ensures ∙ c.before.before.before.before.before.before.before.if1.true)
-    (new-runs a.url a.f (view a.m.now) c.before.before.before.before.before.top-window.ensures c.before.before.sending-to.ensures) (put-carries windows c.before.before.before.put.ensures) c.http-send.ensures
+    let a = c.args in
+    ends-sending (urlbar a.url NewWindow) a.f c.before.before.sending_to-o.result wants_open (sym c.before.before.before.before.before.before.before.before.ready.ensures ∙ c.before.before.before.before.before.before.before.if-ready.true)
+    (new-runs a.url a.f (view a.m.now) c.before.before.before.before.before.top_window-row.ensures c.before.before.sending_to-o.ensures) (put-carries windows c.before.before.before.put-room.ensures) c.http_send.ensures
 
-returns-2 : tie.Need-returns-2
+returns-2 : tie.Need-returns
 returns-2 c =
-    let a = c.before.before.before.before.args in
-    stales (urlbar a.url NewWindow) a.f wants_open (brings_new a.url a.f) (sym c.before.before.ready.ensures ∙ c.before.if1.false) c.refuse.ensures
+    let a = c.args in
+    stales (urlbar a.url NewWindow) a.f wants_open (brings_new a.url a.f) (sym c.before.before.ready.ensures ∙ c.before.if-ready.false) c.refuse.ensures
 
 pub urlbar_new_spec : {M : Type 1} → statement M
 urlbar_new_spec = tie.close (tie.spec (λ c κs. tt) (λ c κs. tt) (λ c κs. tt) (λ c κs. tt) (λ c κs. tt) returns (λ c κs. tt) returns-2)

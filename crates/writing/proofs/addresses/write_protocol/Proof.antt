@@ -12,5 +12,5 @@ returns-2 c = rw c.before.before.before.before.before.before.in-Secure.is c.befo
 pub write_protocol_spec : {M : Type 1} → statement M
 write_protocol_spec =
     tie.close
-    (tie.spec (λ c. search rules) (λ c κs. search rules) (λ c. search rules) 
+    (tie.spec (λ c. search rules) (λ c κs. search rules) (λ c. search rules)
     (λ c κs. search rules) (λ c. search rules) returns (λ c. search rules) returns-2)

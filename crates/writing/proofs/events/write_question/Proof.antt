@@ -18,5 +18,5 @@ returns c =
 pub write_question_spec : {M : Type 1} → statement M
 write_question_spec =
     tie.close
-    (tie.spec (λ c κs. search rules) (λ c. search rules) (λ c κs. search rules) 
+    (tie.spec (λ c κs. search rules) (λ c. search rules) (λ c κs. search rules)
     (λ c κs. search rules) (λ c κs. search rules) (λ c. search rules) returns)
