@@ -1,5 +1,5 @@
 /* Ingleskip for C: a browser of WIM 1.0 that is played one event at a time, in memory that the caller lends.
-   Link libingleskip.a (rt staticlib ingleskip; x86-64). Nothing is allocated, and nothing is kept between calls but what stands in the memory.
+   Link libingleskip.a (tools/c_face.sh makes it; x86-64). Nothing is allocated, and nothing is kept between calls but what stands in the memory.
 
    The caller owes what C can't check: each pointer is valid for so many elements as is said here, none is null, not even of an empty
    text or buffer, and text, memory, buffer and *count do not overlap. What the numbers of the memory are is free: any say some browser. */
