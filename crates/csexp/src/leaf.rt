@@ -54,7 +54,8 @@ pub fn decimal(s: &[u8], at: usize, cap: usize) -> Natural
     if f == 10 {
         return NO_NUMBER;
     }
-    if f == 0 {
+    let zero = f == 0;
+    if zero {
         return Natural {
             value: 0,
             next: at + 1,

@@ -12,10 +12,10 @@ use Rattle.csexp.proofs.leaf.decimal.Statement.{statement}
 use Rattle.csexp.proofs.leaf.decimal.Tie as tie
 
 abbrev invariant-loop : tie.invariant-loop-at
-invariant-loop s at cap f v₀ i₀ v i = (number_at s at ≡ run_at v s i) × (i ≤ length s) × (v ≤ cap)
+invariant-loop s at cap f zero v₀ i₀ v i = (number_at s at ≡ run_at v s i) × (i ≤ length s) × (v ≤ cap)
 
 abbrev decreases-loop : tie.decreases-loop-at
-decreases-loop s at cap f v₀ i₀ v i = length s - i
+decreases-loop s at cap f zero v₀ i₀ v i = length s - i
 
 returns : tie.Need-returns-then-f-eq10 invariant-loop decreases-loop
 returns c = counts_not _ _ _ (ap (decode (at_most _)) (number-none _ _ (sym c.before.digit-f.ensures ∙ c.if-f-eq10.true))) (omega arith)
@@ -24,7 +24,7 @@ add-t9 : tie.Need-overflow_add-result invariant-loop decreases-loop
 add-t9 c = let h = digit-there _ _ (λ q. c.before.if-f-eq10.false (c.before.before.digit-f.ensures ∙ q)) in omega arith
 
 -- a digit stands at the start, and it is f
-starts : (c : tie.Else-f-eq0 invariant-loop decreases-loop)
+starts : (c : tie.Else-zero invariant-loop decreases-loop)
     → let a = c.args in
     (a.at < length a.s.now) × (c.before.before.digit-f.result < 10) × (number_at a.s.now a.at ≡ run_at c.before.before.digit-f.result a.s.now (a.at + 1))
 starts c =
@@ -32,13 +32,13 @@ starts c =
     let e = c.before.before.digit-f.ensures in
     let is_digit : digit_at a.s.now a.at ≡ 10 → ⊥ = λ q. c.before.if-f-eq10.false (e ∙ q) in
     let h = digit-there _ _ is_digit in
-    (h.0, omega arith, number_more _ _ is_digit (λ q. c.if-f-eq0.false (e ∙ q)) ∙ ap (λ (d : ℕ). run_at d a.s.now (a.at + 1)) (sym e))
+    (h.0, omega arith, number_more _ _ is_digit (λ q. c.if-zero.false (e ∙ q)) ∙ ap (λ (d : ℕ). run_at d a.s.now (a.at + 1)) (sym e))
 
-returns-2 : tie.Need-returns-then-f-eq0 invariant-loop decreases-loop
+returns-2 : tie.Need-returns-then-zero invariant-loop decreases-loop
 returns-2 c =
     let e = c.before.before.digit-f.ensures in
     let h = digit-there _ _ (λ q. c.before.if-f-eq10.false (e ∙ q)) in
-    counts-there _ _ _ _ _ (number-zero _ _ (sym e ∙ c.if-f-eq0.true)) (omega arith) (omega arith)
+    counts-there _ _ _ _ _ (number-zero _ _ (sym e ∙ c.if-zero.true)) (omega arith) (omega arith)
 
 returns-3 : tie.Need-returns-then-cap-f invariant-loop decreases-loop
 returns-3 c =
