@@ -21,10 +21,12 @@ pub fn put_answer(out: &mut [u8], at: usize, count: usize, n: u32) -> usize
     requires n_bound { n ≤ 8 }
     ensures { Answered count n out.old at out.new result }
 {
-    if 0 < count {
+    let sends = 0 < count;
+    if sends {
         return at + count;
     }
-    if n == 0 {
+    let silent = n == 0;
+    if silent {
         let p = put_byte(out, at, b'(');
         return put_byte(out, p, b')');
     }

@@ -13,8 +13,8 @@ use Rattle.playing.proofs.lines.put_answer.Tie as tie
 add-result : tie.Need-overflow_add-result
 add-result c = omega arith
 
-returns : tie.Need-returns-then-count-gt0
-returns c = record { none = λ e. absurd (omega (arith, c.if-count-gt0.true, e)); some = λ e. (refl, refl); short = omega (arith, c.requires) }
+returns : tie.Need-returns-then-sends
+returns c = record { none = λ e. absurd (omega (arith, c.if-sends.true, e)); some = λ e. (refl, refl); short = omega (arith, c.requires) }
 
 put-byte-requires : tie.Need-put_byte-p-requires
 put-byte-requires c κs = omega arith
@@ -22,13 +22,13 @@ put-byte-requires c κs = omega arith
 put-byte-requires-2 : tie.Need-put_byte-requires
 put-byte-requires-2 c κs = let place = c.before.before.before.put_byte-p.ensures.place in omega (arith, c.before.before.before.put_byte-p.auto, c.requires)
 
-returns-2 : tie.Need-returns-then-n-eq0
+returns-2 : tie.Need-returns-then-silent
 returns-2 c =
     let a = c.args in
     let two = adds_then c.before.before.before.before.before.before.put_byte-p.ensures c.before.before.put_byte.ensures in
     record {
-      none = λ e. adds_as (sym (ap (λ (x : Bool). cond x (40 ∷ (41 ∷ [])) ((48 + a.n) ∷ [])) (eq-eqb a.n 0 c.before.before.before.before.before.before.before.before.if-n-eq0.true))) two;
-      some = λ e. absurd (e (omega (arith, c.before.before.before.before.before.before.before.before.before.if-count-gt0.false)));
+      none = λ e. adds_as (sym (ap (λ (x : Bool). cond x (40 ∷ (41 ∷ [])) ((48 + a.n) ∷ [])) (eq-eqb a.n 0 c.before.before.before.before.before.before.before.before.if-silent.true))) two;
+      some = λ e. absurd (e (omega (arith, c.before.before.before.before.before.before.before.before.before.if-sends.false)));
       short = let place = two.place in omega arith;
     }
 
@@ -45,8 +45,8 @@ returns-3 : tie.Need-returns
 returns-3 c =
     let a = c.args in
     record {
-      none = λ e. adds_as (sym (ap (λ (x : Bool). cond x (40 ∷ (41 ∷ [])) ((48 + a.n) ∷ [])) (ne_eqb a.n 0 c.before.before.before.before.if-n-eq0.false))) c.before.before.put_byte-2.ensures;
-      some = λ e. absurd (e (omega (arith, c.before.before.before.before.before.if-count-gt0.false)));
+      none = λ e. adds_as (sym (ap (λ (x : Bool). cond x (40 ∷ (41 ∷ [])) ((48 + a.n) ∷ [])) (ne_eqb a.n 0 c.before.before.before.before.if-silent.false))) c.before.before.put_byte-2.ensures;
+      some = λ e. absurd (e (omega (arith, c.before.before.before.before.before.if-sends.false)));
       short = let place = c.before.before.put_byte-2.ensures.place in omega arith;
     }
 
