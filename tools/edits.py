@@ -27,7 +27,7 @@ def crate_of(path):
 
 def found(ending):
     """The files of that ending, with the crate of each: those right in must-fail/, and those of its folder `more`."""
-    places = [f"{TOP}/crates/*/must-fail/*{ending}", f"{TOP}/crates/*/must-fail/more/*{ending}", f"{TOP}/crates/*/more/*{ending}"]
+    places = [f"{TOP}/crates/*/must-fail/*{ending}", f"{TOP}/crates/*/more/*{ending}"]
     return sorted((crate_of(path), path) for place in places for path in glob.glob(place) if crate_of(path) in LISTED)
 
 

@@ -515,7 +515,7 @@ def unclean(old, **forgotten):
         name: ('tests', *pair) for name, pair in forgotten.items()}
 
 
-windows.gated = {'a_33rd_window_taken': ('lib', '    if n < WINDOWS {', '    if n <= WINDOWS {')}
+windows.gated = {'a_33rd_window_taken': ('lib', '    let room = n < WINDOWS;', '    let room = n <= WINDOWS;')}
 windows.edits = WITHOUT | unclean('        labels::same(l, Label::OfWindow(n)),',
                                   an_opener_is_forgotten=('    let o = row.opener;', '    let o = types::rows::Opener::Nobody;'),
                                   a_parent_is_forgotten=('    let p = row.parent;', '    let p = types::rows::Parent::Top;'))

@@ -34,7 +34,7 @@ from dataclasses import dataclass, field
 
 RATTLE = os.path.join(os.path.dirname(os.path.realpath(shutil.which('rt'))), 'rattle')
 WIDE_HEADER = 193    # numbers of a Cookie header: its count and 64 pairs of three
-MORE = 'must-fail/more'    # where a crate's edits stand that the gate does not try
+MORE = 'more'    # where a crate's edits stand that the gate does not try
 
 
 # ---------------------------------------------------------------- fields of a row
@@ -324,7 +324,8 @@ pub fn put(m: &mut Memory, row: @Row@) -> bool
         write(m, at, row);
         return true;
     }
-    if n < @CAPACITY@ {
+    let room = n < @CAPACITY@;
+    if room {
         memory::shift(m, FIRST + at * WIDTH, FIRST + n * WIDTH, WIDTH);
         write(m, at, row);
         m[COUNT] = (n + 1) as u32;
@@ -701,7 +702,7 @@ def put_proof(table):
     (λ c. omega arith)
     (λ c. omega arith)
     (λ c. omega arith)
-    (λ c. written-between {key} {seek(7)} {held(9)} c^6.if-s.false c^5.if-n-lt-@CAPACITY@.true (c^3.shift.ensures.fits (omega (arith, place-within {seek(7)})) (omega arith)) (c^1.write-then-n-lt-@CAPACITY@.ensures (omega (arith, place-within {seek(7)}))))
+    (λ c. written-between {key} {seek(7)} {held(9)} c^6.if-s.false c^5.if-room.true (c^3.shift.ensures.fits (omega (arith, place-within {seek(7)})) (omega arith)) (c^1.write-then-room.ensures (omega (arith, place-within {seek(7)}))))
     (λ c. written_nowhere {key} {seek(2)} {held(4)} c^1.if-s.false (omega arith))'''
 
 
@@ -1444,7 +1445,7 @@ EDITS = {
     'first_finds_where_none_passes': ('lib', '        found: false,', '        found: true,'),
     'keep_stores_where_it_reads': ('lib', '    memory::carry(m, FIRST + i * WIDTH, FIRST + j * WIDTH, WIDTH);', '    memory::carry(m, FIRST + i * WIDTH, FIRST + i * WIDTH, WIDTH);'),
     'keep_counts_those_that_go': ('lib', '    m[COUNT] = j as u32;', '    m[COUNT] = n as u32;'),
-    'put_takes_one_row_too_many': ('lib', '    if n < @CAPACITY@ {', '    if n <= @CAPACITY@ {'),
+    'put_takes_one_row_too_many': ('lib', '    let room = n < @CAPACITY@;', '    let room = n <= @CAPACITY@;'),
     'put_loses_a_last_row': ('lib', '        hit: false,', '        hit: true,'),
     'put_counts_two': ('lib', '        m[COUNT] = (n + 1) as u32;', '        m[COUNT] = (n + 2) as u32;'),
     'clear_leaves_a_row': ('lib', '    m[COUNT] = 0;', '    m[COUNT] = 1;'),

@@ -121,7 +121,8 @@ pub fn put(m: &mut Memory, row: HostCookie) -> bool
         write(m, at, row);
         return true;
     }
-    if n < COOKIES {
+    let room = n < COOKIES;
+    if room {
         memory::shift(m, FIRST + at * WIDTH, FIRST + n * WIDTH, WIDTH);
         write(m, at, row);
         m[COUNT] = (n + 1) as u32;

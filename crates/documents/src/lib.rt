@@ -120,7 +120,8 @@ pub fn put(m: &mut Memory, row: Document) -> bool
         write(m, at, row);
         return true;
     }
-    if n < DOCUMENTS {
+    let room = n < DOCUMENTS;
+    if room {
         memory::shift(m, FIRST + at * WIDTH, FIRST + n * WIDTH, WIDTH);
         write(m, at, row);
         m[COUNT] = (n + 1) as u32;

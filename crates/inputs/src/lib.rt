@@ -116,7 +116,8 @@ pub fn put(m: &mut Memory, row: Input) -> bool
         write(m, at, row);
         return true;
     }
-    if n < INPUTS {
+    let room = n < INPUTS;
+    if room {
         memory::shift(m, FIRST + at * WIDTH, FIRST + n * WIDTH, WIDTH);
         write(m, at, row);
         m[COUNT] = (n + 1) as u32;

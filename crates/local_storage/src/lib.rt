@@ -115,7 +115,8 @@ pub fn put(m: &mut Memory, row: LocalValue) -> bool
         write(m, at, row);
         return true;
     }
-    if n < LOCAL_STORAGE {
+    let room = n < LOCAL_STORAGE;
+    if room {
         memory::shift(m, FIRST + at * WIDTH, FIRST + n * WIDTH, WIDTH);
         write(m, at, row);
         m[COUNT] = (n + 1) as u32;

@@ -117,7 +117,8 @@ pub fn put(m: &mut Memory, row: Question) -> bool
         write(m, at, row);
         return true;
     }
-    if n < PENDING_DNS {
+    let room = n < PENDING_DNS;
+    if room {
         memory::shift(m, FIRST + at * WIDTH, FIRST + n * WIDTH, WIDTH);
         write(m, at, row);
         m[COUNT] = (n + 1) as u32;

@@ -118,7 +118,8 @@ pub fn put(m: &mut Memory, row: Waiting) -> bool
         write(m, at, row);
         return true;
     }
-    if n < PENDING_REQUESTS {
+    let room = n < PENDING_REQUESTS;
+    if room {
         memory::shift(m, FIRST + at * WIDTH, FIRST + n * WIDTH, WIDTH);
         write(m, at, row);
         m[COUNT] = (n + 1) as u32;

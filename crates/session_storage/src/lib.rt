@@ -118,7 +118,8 @@ pub fn put(m: &mut Memory, row: SessionValue) -> bool
         write(m, at, row);
         return true;
     }
-    if n < SESSION_STORAGE {
+    let room = n < SESSION_STORAGE;
+    if room {
         memory::shift(m, FIRST + at * WIDTH, FIRST + n * WIDTH, WIDTH);
         write(m, at, row);
         m[COUNT] = (n + 1) as u32;

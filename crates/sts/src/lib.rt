@@ -113,7 +113,8 @@ pub fn put(m: &mut Memory, row: StrictHost) -> bool
         write(m, at, row);
         return true;
     }
-    if n < STS {
+    let room = n < STS;
+    if room {
         memory::shift(m, FIRST + at * WIDTH, FIRST + n * WIDTH, WIDTH);
         write(m, at, row);
         m[COUNT] = (n + 1) as u32;

@@ -115,7 +115,8 @@ pub fn put(m: &mut Memory, row: Window) -> bool
         write(m, at, row);
         return true;
     }
-    if n < WINDOWS {
+    let room = n < WINDOWS;
+    if room {
         memory::shift(m, FIRST + at * WIDTH, FIRST + n * WIDTH, WIDTH);
         write(m, at, row);
         m[COUNT] = (n + 1) as u32;

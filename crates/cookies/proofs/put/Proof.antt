@@ -21,5 +21,5 @@ put_spec = tie.close (tie.spec
     (λ c. omega arith)
     (λ c. omega arith)
     (λ c. omega arith)
-    (λ c. written-between (key_of cookies) (cmp cookies) _ c.before.before.before.before.before.before.before.seek-s.ensures (omega (arith, c.before.before.before.before.before.before.before.before.before.before.before.whole.ensures)) c.before.before.before.before.before.before.if-s.false c.before.before.before.before.before.if-n-lt-COOKIES.true (c.before.before.before.shift.ensures.fits (omega (arith, place-within c.before.before.before.before.before.before.before.seek-s.ensures)) (omega arith)) (c.before.write-then-n-lt-COOKIES.ensures (omega (arith, place-within c.before.before.before.before.before.before.before.seek-s.ensures))))
+    (λ c. written-between (key_of cookies) (cmp cookies) _ c.before.before.before.before.before.before.before.seek-s.ensures (omega (arith, c.before.before.before.before.before.before.before.before.before.before.before.whole.ensures)) c.before.before.before.before.before.before.if-s.false c.before.before.before.before.before.if-room.true (c.before.before.before.shift.ensures.fits (omega (arith, place-within c.before.before.before.before.before.before.before.seek-s.ensures)) (omega arith)) (c.before.write-then-room.ensures (omega (arith, place-within c.before.before.before.before.before.before.before.seek-s.ensures))))
     (λ c. written_nowhere (key_of cookies) (cmp cookies) _ c.before.before.seek-s.ensures (omega (arith, c.before.before.before.before.before.before.whole.ensures)) c.before.if-s.false (omega arith)))

@@ -2,7 +2,6 @@
 use Prim.Native.Nat.{◌-◌}
 use native.Mathlib.Omega.{arith}
 use Rattle.memory.proofs.Changing.{Changing, change_start, change_written, change_end}
-use Rattle.tables.specs.Tables.{changed}
 use Rattle.documents.specs.Which.{changes}
 use Rattle.layouts.specs.Tables.{documents_in}
 use Rattle.documents.proofs.revise.Statement.{statement}

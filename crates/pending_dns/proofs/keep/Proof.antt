@@ -6,7 +6,6 @@ use Rattle.memory.proofs.Loops.{Sifting, sift-start, sift-end}
 use Rattle.memory.proofs.Heads.{glance_drops, glance_keeps, glance_stays}
 use Rattle.pending_dns.specs.Which.{passes, head_passes}
 use Rattle.layouts.specs.Tables.{questions_in}
-use Rattle.pending_dns.proofs.Coded.{head_at}
 use Rattle.pending_dns.proofs.keep.Statement.{statement}
 use Rattle.pending_dns.proofs.keep.Tie as tie
 

@@ -1,6 +1,5 @@
 -- By what the calls ensure. Written by tools/tables.py.
 use mathlib.Core.Path.{◌∙◌}
-use mathlib.Core.Bool.{not}
 use Rattle.labels.proofs.Laws.{clean-first}
 use Rattle.tables.specs.Tables.{pending_requests}
 use Rattle.pending_requests.proofs.clean.Statement.{statement}

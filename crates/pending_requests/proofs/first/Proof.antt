@@ -6,7 +6,6 @@ use Rattle.memory.proofs.Loops.{Looking, look_start, look_end}
 use Rattle.memory.proofs.Heads.{glance_next, glance_hit}
 use Rattle.pending_requests.specs.Which.{passes, head_passes}
 use Rattle.layouts.specs.Tables.{requests_in}
-use Rattle.pending_requests.proofs.Coded.{head_at}
 use Rattle.pending_requests.proofs.first.Statement.{statement}
 use Rattle.pending_requests.proofs.first.Tie as tie
 

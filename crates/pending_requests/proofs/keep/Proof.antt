@@ -6,7 +6,6 @@ use Rattle.memory.proofs.Loops.{Sifting, sift-start, sift-end}
 use Rattle.memory.proofs.Heads.{glance_drops, glance_keeps, glance_stays}
 use Rattle.pending_requests.specs.Which.{passes, head_passes}
 use Rattle.layouts.specs.Tables.{requests_in}
-use Rattle.pending_requests.proofs.Coded.{head_at}
 use Rattle.pending_requests.proofs.keep.Statement.{statement}
 use Rattle.pending_requests.proofs.keep.Tie as tie
 

@@ -2,12 +2,11 @@
 use mathlib.Core.Path.{sym, ap, ◌∙◌}
 use Prim.Native.Nat.{◌-◌}
 use native.Mathlib.Omega.{arith}
-use Rattle.sorted.specs.Order.{same, after}
+use Rattle.sorted.specs.Order.{after}
 use Rattle.memory.proofs.Loops.{Searching, search_start, search_end}
 use Rattle.memory.proofs.Heads.{glance_after, glance_stop}
 use Rattle.pending_requests.specs.Which.{key_stands, head_stands}
 use Rattle.layouts.specs.Tables.{requests_in}
-use Rattle.pending_requests.proofs.Coded.{head_at}
 use Rattle.pending_requests.proofs.seek.Statement.{statement}
 use Rattle.pending_requests.proofs.seek.Tie as tie
 

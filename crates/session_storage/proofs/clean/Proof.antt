@@ -1,6 +1,5 @@
 -- By what the calls ensure. Written by tools/tables.py.
 use mathlib.Core.Path.{◌∙◌}
-use mathlib.Core.Bool.{not}
 use Rattle.labels.proofs.Laws.{clean-first}
 use Rattle.tables.specs.Tables.{session_storage}
 use Rattle.session_storage.proofs.clean.Statement.{statement}

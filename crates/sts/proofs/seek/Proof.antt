@@ -2,7 +2,7 @@
 use mathlib.Core.Path.{sym, ap, ◌∙◌}
 use Prim.Native.Nat.{◌-◌}
 use native.Mathlib.Omega.{arith}
-use Rattle.sorted.specs.Order.{same, after}
+use Rattle.sorted.specs.Order.{after}
 use Rattle.memory.proofs.Loops.{Searching, search_start, search_next, search_hit, search_end}
 use Rattle.sts.specs.Which.{key_stands}
 use Rattle.layouts.specs.Tables.{sts_in}

@@ -1,5 +1,4 @@
 -- By what the calls ensure. Written by tools/tables.py.
-use Rattle.sorted.specs.Order.{same}
 use Rattle.inputs.proofs.tests.mentioned.Statement.{statement}
 use Rattle.inputs.proofs.tests.mentioned.Tie as tie
 

@@ -1,5 +1,4 @@
 -- By what the calls ensure. Written by tools/tables.py.
-use mathlib.Core.Bool.{not}
 use Rattle.inputs.proofs.tests.spared.Statement.{statement}
 use Rattle.inputs.proofs.tests.spared.Tie as tie
 

@@ -1,5 +1,4 @@
 -- By what the calls ensure. Written by tools/tables.py.
-use Rattle.sorted.specs.Order.{same}
 use Rattle.local_storage.proofs.tests.key_is.Statement.{statement}
 use Rattle.local_storage.proofs.tests.key_is.Tie as tie
 

@@ -1,6 +1,4 @@
 -- By what the calls ensure. Written by tools/tables.py.
-use mathlib.Core.Bool.{not}
-use Rattle.sorted.specs.Order.{same}
 use Rattle.pending_dns.proofs.tests.key_is_not.Statement.{statement}
 use Rattle.pending_dns.proofs.tests.key_is_not.Tie as tie
 

@@ -1,5 +1,4 @@
 -- By what the calls ensure. Written by tools/tables.py.
-use Rattle.sorted.specs.Order.{same}
 use Rattle.labels.proofs.Laws.{or_false}
 use Rattle.pending_dns.proofs.tests.mentioned.Statement.{statement}
 use Rattle.pending_dns.proofs.tests.mentioned.Tie as tie

@@ -1,5 +1,4 @@
 -- By what the calls ensure. Written by tools/tables.py.
-use mathlib.Core.Bool.{not}
 use Rattle.pending_dns.proofs.tests.not_for.Statement.{statement}
 use Rattle.pending_dns.proofs.tests.not_for.Tie as tie
 

@@ -2,7 +2,6 @@
 use mathlib.Core.Path.{◌∙◌}
 use borrow.Author.Rules.{rules}
 use Rattle.layouts.proofs.Parts.{referrer_flat}
-use Rattle.tables.specs.Tables.{cookies}
 use Rattle.pending_requests.proofs.rows.numbers_of.Statement.{statement}
 use Rattle.pending_requests.proofs.rows.numbers_of.Tie as tie
 

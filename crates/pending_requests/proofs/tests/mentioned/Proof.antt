@@ -1,6 +1,5 @@
 -- By what the calls ensure. Written by tools/tables.py.
 use mathlib.Core.Path.{sym}
-use Rattle.sorted.specs.Order.{same}
 use Rattle.labels.proofs.Laws.{among-last}
 use Rattle.tables.specs.Labels.{leads, seal_label, request}
 use Rattle.tables.specs.View.{label_of}

@@ -1,5 +1,4 @@
 -- By what the calls ensure. Written by tools/tables.py.
-use Rattle.sorted.specs.Order.{same}
 use Rattle.labels.proofs.Laws.{or_false, no-host}
 use Rattle.session_storage.proofs.tests.mentioned.Statement.{statement}
 use Rattle.session_storage.proofs.tests.mentioned.Tie as tie

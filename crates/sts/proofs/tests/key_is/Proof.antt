@@ -1,5 +1,4 @@
 -- By what the calls ensure. Written by tools/tables.py.
-use Rattle.sorted.specs.Order.{same}
 use Rattle.sts.proofs.tests.key_is.Statement.{statement}
 use Rattle.sts.proofs.tests.key_is.Tie as tie
 
