@@ -199,7 +199,7 @@ class Table:
     cites: dict = field(default_factory=dict)
     meant: dict = field(default_factory=dict)     # what the meanings alone cite
     more: dict = field(default_factory=dict)      # further files of definitions and laws: {'specs/Filled.antt': text}
-    edits: dict = field(default_factory=dict)     # of must-fail/more
+    edits: dict = field(default_factory=dict)     # of more/
     gated: dict = field(default_factory=dict)     # of must-fail, which the gate tries
     component: str = ''                           # the paper's name of the component, where it is spelt otherwise
     base: int = 0
