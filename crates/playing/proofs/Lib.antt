@@ -7,3 +7,4 @@ pub mod Running
 pub mod Loop
 pub mod Meaning
 pub mod Moving
+pub mod Telling

@@ -26,7 +26,7 @@ use Rattle.playing.specs.declared.looking.Halt.TheVariants.{Over, Stopped, Hungr
 use Rattle.playing.specs.declared.looking.Next.{Next}
 use Rattle.playing.specs.declared.looking.Next.TheVariants.{Item, Nothing}
 use Rattle.playing.specs.declared.portions.Played.{Played}
-use Rattle.playing.specs.Lines.{line_bytes}
+use Rattle.playing.specs.Lines.{line_bytes, last_line}
 use Rattle.playing.specs.Portions.{unended, next_in, Portion, joined, portion_from, portion_of}
 use Rattle.playing.specs.Plays.{saying, going_on, Plays}
 use Rattle.playing.proofs.Firsts.{first-term}
@@ -79,6 +79,21 @@ play-comes {text} {last} {m} {out} u = subst (λ (p : Portion). RunsTo (browser 
 pub either_way : {T E P : Type 0} (r : Outcome T E) → P → OnErr r P
 either_way (Ok x) p = tt
 either_way (Err e) p = p
+
+-- Where nothing was played, and yet a line may have no room, no line was written.
+crowded_first : (k : ℕ) (s : List ℕ) (last : Bool) (room : ℕ) (b : Browser) → (portion_from (suc k) s last room b).read ≡ 0 → (portion_from (suc k) s last room b).halt ≡ Crowded → (portion_from (suc k) s last room b).lines ≡ []
+crowded_first k s last room b =
+    subst (λ (p : Portion). p.read ≡ 0 → p.halt ≡ Crowded → p.lines ≡ []) (sym (portion_step k s last room b)) (go (next_in s last room) refl)
+  where
+    go : (x : Next) → next_in s last room ≡ x → (played_on k s last room b x).read ≡ 0 → (played_on k s last room b x).halt ≡ Crowded → (played_on k s last room b x).lines ≡ []
+    go (Item n) e none h = let some_bytes = (first-term item_bytes item_levels s n (next-item s last room e).whole).positive in absurd (omega arith)
+    go (Nothing h) e none crowded = ap last_line crowded
+
+pub crowded-none : {text : List ℕ} {last : Bool} {m out : List ℕ} {r : Played} {k out₂ : List ℕ} → Plays text last m out r k out₂ → r.read ≡ 0 → r.halt ≡ Crowded → r.written ≡ 0
+unfolding portion_of
+crowded-none {text} {last} {m} {out} {r} {k} {out₂} u none crowded =
+    u.counted
+    ∙ ap length (ap (λ (p : Portion). p.lines) u.tells ∙ crowded_first (length text) text last (length out) (browser m) (sym (ap (λ (p : Portion). p.read) u.tells) ∙ none) (sym (ap (λ (p : Portion). p.halt) u.tells) ∙ crowded))
 
 -- WHY NO MORE WAS PLAYED.
 pub record Reasons (s : List ℕ) (last : Bool) (room : ℕ) (halt : Halt) (read written : ℕ) : Type 0 where

@@ -5,3 +5,4 @@ pub mod Portions
 pub mod Plays
 pub mod Keeps
 pub mod Feeds
+pub mod Told

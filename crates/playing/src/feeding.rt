@@ -1,9 +1,11 @@
 // A run from an input that is open for reading. The input goes through a window of fixed size, so it may be of any length; an item is played as soon as it is
 // whole.
+ghost use Rattle.std.specs.Prelude.{◌≡◌, false, OnOk};
 ghost use Rattle.wim.specs.Step.{empty_browser};
 ghost use Rattle.wim.specs.Made.{RunsTo};
 ghost use Rattle.browser.specs.View.{browser};
 ghost use Rattle.playing.specs.Feeds.{Begins};
+ghost use Rattle.playing.specs.Told.{Told};
 
 use crate::window::{Run, turn};
 use memory::Memory;
@@ -18,7 +20,8 @@ const TURNS: u64 = 18446744073709551615;
 
 // The memory made empty, and nothing held.
 fn begin(m: &mut Memory) -> Run
-    ensures { Begins m.new result.held }
+    ensures begins { Begins m.new result.held }
+    ensures open { result.last ≡ false }
 {
     rehearsal::make_empty(m);
     Run {
@@ -28,15 +31,16 @@ fn begin(m: &mut Memory) -> Run
     }
 }
 
-// The run begins with the memory made empty. Its lines are written where they are to be told. Of what comes from outside nothing can be promised: what
-// is made of each portion, `play` promises. Whatever came, also where a read or a write failed, the browser is one that a run from the empty open one comes to.
+// The run begins with the memory made empty. Its lines are written where they are to be told. Whatever came, also where a read or a write failed, the browser is
+// one that a run from the empty open one comes to. Where it is known which bytes the input has and which were written, what was written is the whole run.
 pub fn play_all<R: Read, W: Write>(
     input: &mut R,
     out: &mut W,
     m: &mut Memory,
     loud: bool,
 ) -> io::Result<()>
-    ensures { RunsTo empty_browser (browser m.new) }
+    ensures comes { RunsTo empty_browser (browser m.new) }
+    ensures told { OnOk result (Told loud (R.remaining input.old) (W.contents out.old) (W.contents out.new)) }
 {
     let mut run = begin(m);
     let mut window = [0u8; PORTION];

@@ -1,9 +1,11 @@
 // The window over the input: what was read and is not yet played stands at its front.
-ghost use Rattle.std.specs.Prelude.{◌-◌, ◌≤◌, length, IfOk, OnErr};
+ghost use Rattle.std.specs.Prelude.{◌≡◌, ◌-◌, ◌≤◌, length, take, drop, IfOk, OnOk, OnErr};
+ghost use Rattle.std.specs.Io.KnownBytes.{Appends, ReadConsumes};
 ghost use Rattle.wim.specs.Made.{RunsTo};
 ghost use Rattle.browser.specs.View.{browser};
 ghost use Rattle.playing.specs.Keeps.{Keeps};
 ghost use Rattle.playing.specs.Feeds.{Feeds};
+ghost use Rattle.playing.specs.Told.{spoken, Turned};
 
 use crate::looking::Halt;
 use crate::portions::play;
@@ -37,13 +39,17 @@ fn keep(window: &mut [u8], from: usize, to: usize) -> usize
 // Reads on behind the bytes that are held: how many came, and none at the end of the input.
 fn fill<R: Read>(input: &mut R, window: &mut [u8], held: usize) -> io::Result<usize>
     requires { held ≤ length window.old }
-    ensures { IfOk result (λ n. n ≤ length window.new - held) }
+    ensures within { IfOk result (λ n. n ≤ length window.new - held) }
+    ensures kept { take held window.new ≡ take held window.old }
+    ensures bytes { ReadConsumes (R.remaining input.old) (R.remaining input.new) result (drop held window.new) }
 {
     input.read(&mut window[held..])
 }
 
-// Writes the lines where they are to be told. None waits for more.
-fn tell<W: Write>(out: &mut W, loud: bool, lines: &[u8]) -> io::Result<()> {
+// Writes the lines where they are to be told, and lets none wait for more.
+fn tell<W: Write>(out: &mut W, loud: bool, lines: &[u8]) -> io::Result<()>
+    ensures { OnOk result (Appends (W.contents out.old) (W.contents out.new) (spoken loud lines.now)) }
+{
     if loud {
         out.write_all(lines)?;
         out.flush()?;
@@ -63,6 +69,8 @@ pub fn turn<R: Read, W: Write>(
 ) -> io::Result<Run>
     requires { run.held ≤ length window.old }
     ensures ok { IfOk result (λ r. Feeds m.old window.new m.new r.held) }
+    ensures told { IfOk result (λ r. Turned loud (length lines.old) (W.contents out.old) (W.contents out.new)
+        run window.old m.old (R.remaining input.old) r window.new m.new (R.remaining input.new)) }
     ensures err { OnErr result (RunsTo (browser m.old) (browser m.new)) }
 {
     let held = run.held;
