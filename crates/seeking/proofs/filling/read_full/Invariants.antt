@@ -1,9 +1,10 @@
--- What was read lies within the buffer.
-use Rattle.std.proofs.Common.{length, ◌-◌, ◌≤◌}
+-- What was read lies within the buffer, and was the first of what the input had.
+use Rattle.std.proofs.Common.{length, take, ◌-◌, ◌≤◌}
+use Rattle.std.specs.Io.KnownBytes.{Consumes}
 use Rattle.seeking.proofs.filling.read_full.Given as goal
 
 abbrev pub invariant-loop-done : goal.invariant-loop-done
-invariant-loop-done g l = l.done ≤ length l.buffer
+invariant-loop-done g l = (l.done ≤ length l.buffer) × Consumes (g.R.Read.remaining l.initial.input) (g.R.Read.remaining l.input) (take l.done l.buffer)
 
 abbrev pub decreases-loop-done : goal.decreases-loop-done
 decreases-loop-done g l = length l.initial.buffer - l.done
