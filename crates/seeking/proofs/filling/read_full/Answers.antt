@@ -25,8 +25,7 @@ loop-done-preserved g c =
     let room = length c.loop-done.buffer - at in
     let within = c.loop-done.invariant.0 in
     let part = what_came at room c.in_ok-n.n c.loop-done.buffer c.read.new.buf within c.in_ok-n.ensures.bound.0 in
-    let joined = both at (at + c.in_ok-n.n) c.loop-done.buffer (put_mid at room c.loop-done.buffer c.read.new.buf) (omega arith) (take-put_mid_below _ _ _ _ _ (le_refl _) within) in
-    (
+    let joined = both at (at + c.in_ok-n.n) c.loop-done.buffer (put_mid at room c.loop-done.buffer c.read.new.buf) (omega arith) (take-put_mid_below _ _ _ _ _ (le_refl _) within) in (
       search rules,
       subst (Consumes _ _) (ap (λ l. take at c.loop-done.buffer ++ l) (sym part) ∙ joined) (Consumes-trans _ _ _ _ _ c.loop-done.invariant.1 c.in_ok-n.ensures.bytes.0),
     )
