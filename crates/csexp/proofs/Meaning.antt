@@ -1,8 +1,8 @@
 -- What reading, the contracts and the limits say in terms of writing alone.
---     read-complete · read-sound                a text is read exactly where it begins with a term as it is written
---     read-written · write-injective            what was written is read; no two terms are written alike
+--     read_complete · read_sound                a text is read exactly where it begins with a term as it is written
+--     read-written · write_injective            what was written is read; no two terms are written alike
 --     written-is-found · found-is-written       the same of a decoder at a position: what `Reads` says
---     reads-agree                               any two answers that `Reads` allows are the same, where one of them found something
+--     reads_agree                               any two answers that `Reads` allows are the same, where one of them found something
 --     written-is-whole · whole-is-written       the same of a whole text within limits: what `whole` says
 --     written-is-ending · ending-is-written     the same of a first term within limits: what `ends_at` says
 use mathlib.Core.Path.{◌≡◌, refl, sym, ap, ◌∙◌}

@@ -1,7 +1,7 @@
 -- The laws of decimal numbers.
 --     decimal-more      one more digit
---     number-sound      what is read is what the number is written as
---     number-complete   a number that is written, and no digit behind it, is read
+--     number_sound      what is read is what the number is written as
+--     number_complete   a number that is written, and no digit behind it, is read
 use mathlib.Core.Path.{◌≡◌, refl, sym, ap, ap₂, ◌∙◌}
 use mathlib.Core.Bool.{Bool, true, false, cond}
 use mathlib.Core.List.{List, [], ◌∷◌, ◌++◌, append_assoc}

@@ -1,7 +1,7 @@
 -- The laws that the proof of a compound reader is put together from, one for each call in it. Past the end of the text nothing is
 -- found, so the calls go on with no test in between.
 --     opened · passed · closed             a list's '(', a field, its ')'
---     tried · tried-there · tried-not      a field that may be absent: what stands behind it, that it is there, that it is not
+--     tried · tried_there · tried_not      a field that may be absent: what stands behind it, that it is there, that it is not
 --     chosen · other · missed              the first of two decoders, the second, that the first finds nothing
 --     vacant · filled                      () for no value, another term for one
 --     mapped · meant                       a value made of a value, of a word

@@ -1,6 +1,6 @@
 -- The laws of terms.
---     read-sound      a text that is read is the one its term is written as, and then what is left
---     read-complete   what was written is read back, with the rest untouched
+--     read_sound      a text that is read is the one its term is written as, and then what is left
+--     read_complete   what was written is read back, with the rest untouched
 --     read-..         how reading goes, with no count of calls
 use mathlib.Core.Path.{◌≡◌, refl, sym, ap, ap₂, ◌∙◌}
 use mathlib.Core.Bool.{Bool, true, false, cond}

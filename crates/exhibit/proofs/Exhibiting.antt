@@ -1,8 +1,8 @@
 -- What was looked up and written is what the definitions exhibit. No code stands here.
 --     shown-whole                                  the parts, for the origin that was computed
---     exhibits-closed                              8
---     exhibits-lacking                             3
---     exhibits-there · exhibits-crowded            it was written; it had no room: 7
+--     exhibits_closed                              8
+--     exhibits_lacking                             3
+--     exhibits_there · exhibits_crowded            it was written; it had no room: 7
 use mathlib.Core.Path.{◌≡◌, refl, sym, ap, ap₂, ◌∙◌}
 use mathlib.Core.Bool.{Bool, true, false, cond}
 use mathlib.Core.List.{List}

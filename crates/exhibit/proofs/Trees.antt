@@ -1,7 +1,7 @@
 -- The tree, level by level.
 --     windows-none · windows-all          no level left; the windows of one level, written by the loop
 --     document-none                       a window without a document
---     document-whole · document-limited   one with a document of the script's origin, and of another
+--     document-whole · document_limited   one with a document of the script's origin, and of another
 use mathlib.Core.Path.{◌≡◌, refl, sym, ap, ap₂, subst, ◌∙◌}
 use mathlib.Core.Bool.{Bool, true, false, cond}
 use mathlib.Core.List.{List, [], ◌∷◌}

@@ -1,6 +1,6 @@
 -- The loop that writes something of each row of a table that passes a test, one behind the other: rows before i are done. Inputs, cookies and windows
 -- are written by it.
---     pass-start · pass-takes · pass-skips · pass-end
+--     pass_start · pass_takes · pass_skips · pass_end
 use mathlib.Core.Path.{◌≡◌, refl, sym, ap, subst, ◌∙◌}
 use mathlib.Core.Bool.{Bool, true, false, cond}
 use mathlib.Core.List.{List, [], ◌∷◌, ◌++◌}

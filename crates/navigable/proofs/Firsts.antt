@@ -1,6 +1,6 @@
 -- The first row of a set is told by the zeros at the end of its number.
 --     no_row · some-row       there is none; there is one
---     first-navigable-row     it is a row of the windows, and the first that may be navigated
+--     first_navigable_row     it is a row of the windows, and the first that may be navigated
 use mathlib.Core.Path.{◌≡◌, refl, sym, ◌∙◌, ap, subst}
 use mathlib.Core.Bool.{Bool, true, false, cond}
 use mathlib.Core.List.{List, [], ◌∷◌}

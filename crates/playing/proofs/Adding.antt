@@ -1,6 +1,6 @@
 -- Bytes that are added to a buffer.
---     adds_none · adds-byte · adds-into     no byte, one, some that fit
---     adds_then · adds-as                   one part behind another; the same bytes, said otherwise
+--     adds_none · adds_byte · adds-into     no byte, one, some that fit
+--     adds_then · adds_as                   one part behind another; the same bytes, said otherwise
 use mathlib.Core.Path.{◌≡◌, refl, sym, ap, subst, ◌∙◌}
 use mathlib.Core.List.{List, [], ◌∷◌, ◌++◌, append_assoc, append-nil}
 use Prim.Native.Nat.{ℕ, ◌+◌, ◌≤◌, ◌<◌}

@@ -1,7 +1,7 @@
 -- The first term of a text, and of the text with more behind it.
 --     first-term      a term that is whole stands at the front of the text, and has at least one byte
---     whole-grows     it is whole whatever follows
---     broken-stays    where there is none, and the text is as long as a term may be, there is none whatever follows
+--     whole_grows     it is whole whatever follows
+--     broken_stays    where there is none, and the text is as long as a term may be, there is none whatever follows
 use mathlib.Core.Path.{◌≡◌, refl, sym, ap, ◌∙◌}
 use mathlib.Core.List.{List, ◌++◌, append_assoc}
 use Prim.Native.Nat.{ℕ, ◌+◌, ◌-◌, ◌≤◌, ◌<◌}

@@ -1,6 +1,6 @@
 -- The loop of `play`: what was played so far, and that what is left is played from there.
 --     starts · goes_on · ends                         nothing yet, one item more, no item any more
---     written-within · item-ahead · stop-ahead        the places lie within text and buffer
+--     written-within · item_ahead · stop_ahead        the places lie within text and buffer
 use mathlib.Core.Path.{◌≡◌, refl, sym, ap, ap₂, subst, ◌∙◌}
 use mathlib.Core.Bool.{Bool}
 use mathlib.Core.List.{List, [], ◌++◌, append_assoc}

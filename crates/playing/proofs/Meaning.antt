@@ -1,5 +1,5 @@
 -- What the promise of `play` comes to.
---     one-result                       any two results that it allows are the same
+--     one_result                       any two results that it allows are the same
 --     over-is-run · stopped-is-run     where nothing follows and the run ended, the lines are the whole run
 --     play-comes                       a run comes from the browser before to the one behind
 --     either_way                       where a read or a write failed, it holds as well

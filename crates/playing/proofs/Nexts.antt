@@ -1,6 +1,6 @@
 -- What comes next in a portion.
 --     next-item · next-none                          what `next_in` says, taken apart
---     next-crowded · next-whole · next-broken        and put together, as the code does
+--     next_crowded · next-whole · next_broken        and put together, as the code does
 --     ends-empty · ends_some                         why no item stands first
 use mathlib.Core.Path.{◌≡◌, refl, sym, ap, subst, ◌∙◌}
 use mathlib.Core.Bool.{Bool, true, false, cond}

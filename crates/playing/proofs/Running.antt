@@ -1,6 +1,6 @@
 -- How a run goes, and that a portion's lines are its first.
---     play-whole · play-broken     an item and then the others; refusal 1
---     portion-run                  the lines of a portion stand first in the run, whatever follows it
+--     play-whole · play_broken     an item and then the others; refusal 1
+--     portion_run                  the lines of a portion stand first in the run, whatever follows it
 use mathlib.Core.Path.{◌≡◌, refl, sym, ap, ap₂, ◌∙◌}
 use mathlib.Core.Bool.{Bool, true, false, cond}
 use mathlib.Core.List.{List, [], ◌∷◌, ◌++◌, append_assoc, append-nil}

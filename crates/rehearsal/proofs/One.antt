@@ -1,5 +1,5 @@
 -- The promise of the step on text leaves nothing free.
---     one-result     any two results that it allows are the same: verdict, browser, count and buffer
+--     one_result     any two results that it allows are the same: verdict, browser, count and buffer
 --     untouched      at a refusal the memory is the very one that was lent, nothing was written, and the buffer is as it was
 use mathlib.Core.Path.{◌≡◌, refl, sym, ap, ◌∙◌}
 use mathlib.Core.Bool.{Bool, true, false, cond}

@@ -28,7 +28,8 @@ fn empty(m: &mut Memory)
 pub fn close_corrupt(m: &mut Memory, f: Fresh) -> Performed
     ensures { Performs close_corrupt f m.old m.new result }
 {
-    if stepping::brings_none(f) {
+    let free = stepping::brings_none(f);
+    if free {
         empty(m);
         return stepping::silent(true);
     }

@@ -1,8 +1,8 @@
 -- What is read as a part that items and events share is what that part is written as, in range. Each law says: to show P of every term and value
 -- that the decoder gives, show P of the term of each value in range.
---     number-only · optional-only · labelled-only     numbers
---     protocol-only · fragment-only · url-only · origin-only · name-only · method-only
---     header-only · unless-only                       a header, and one that may stand once
+--     number_only · optional_only · labelled_only     numbers
+--     protocol_only · fragment_only · url_only · origin_only · name_only · method_only
+--     header_only · unless_only                       a header, and one that may stand once
 use mathlib.Core.Bool.{Bool, true, false}
 use mathlib.Core.List.{List}
 use Prim.Native.Nat.{ℕ}

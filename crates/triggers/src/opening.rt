@@ -71,7 +71,8 @@ fn load_into(m: &mut Memory, url: Url, w: WindowNumber, f: Fresh) -> Performed
 fn urlbar_existing(m: &mut Memory, url: Url, w: WindowNumber, f: Fresh) -> Performed
     ensures { Performs (urlbar url (Existing w)) f m.old m.new result }
 {
-    if walks::is_top(m, w) {
+    let top = walks::is_top(m, w);
+    if top {
         let a = walks::active_document(m, w);
         if a.found {
             return load_into(m, url, w, f);

@@ -18,7 +18,7 @@ pub record WindowIn (r : Window) : Type 0 where
   pub parent : ParentIn r.parent
   pub opener : OpenerIn r.opener
 
--- "Both count from 1": places here, arrivals below. Neither exceeds the rows of its table (`places-bounded`, `arrivals-bounded` of `ranges`).
+-- "Both count from 1": places here, arrivals below. Neither exceeds the rows of its table (`places_bounded`, `arrivals_bounded` of `ranges`).
 pub record DocumentIn (d : Document) : Type 0 where
   pub window : NumberIn d.window.0
   pub place : 1 ≤ d.place

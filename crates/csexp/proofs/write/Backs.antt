@@ -1,9 +1,9 @@
 -- Reading back what was encoded: a law for each pair of an encoder's and a decoder's parts.
 --     in_list · then_one · at-end                                a list and its fields
 --     is-there · is-other · is_last                              a field that may be absent
---     first_of · second-of · by-maps · is-vacant · is-filled     one of two, a value made of a value, () or a value
---     is_word · is-means · is_number · is-labelled · is-optional
---     no-list · no_word · no-means · no-begin · no_number · no-maps     what a decoder finds nothing in
+--     first_of · second_of · by-maps · is_vacant · is-filled     one of two, a value made of a value, () or a value
+--     is_word · is-means · is_number · is-labelled · is_optional
+--     no-list · no_word · no-means · no_begin · no_number · no-maps     what a decoder finds nothing in
 --     all_back                                                   a list of at most n values
 use mathlib.Core.Path.{◌≡◌, refl, sym, ap, subst, ◌∙◌}
 use mathlib.Core.Bool.{Bool, true, false, cond}

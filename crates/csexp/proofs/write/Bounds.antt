@@ -1,6 +1,6 @@
 -- How long a text is at most: a law for each part of an encoder. The bounds of the parts add up to the whole's by computing.
---     short-list · short-nil · short-cons · short-joins · short-each · short-word · short-number · short-optional · short-labelled
---     short-less · shorts-less
+--     short-list · short-nil · short-cons · short-joins · short-each · short-word · short-number · short_optional · short-labelled
+--     short-less · shorts_less
 use mathlib.Core.Path.{◌≡◌, refl, ap, ◌∙◌}
 use mathlib.Core.Bool.{Bool, true, false, cond}
 use mathlib.Core.List.{List, [], ◌∷◌}

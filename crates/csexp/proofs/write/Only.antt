@@ -1,10 +1,10 @@
 -- A decoder finds only what was encoded: a law for each of its parts, the converse of those in Backs. To show P of every term and value that
 -- a decoder gives, it is enough to show P of what the encoder makes of each value.
---     gives_so · holds-so · only-any                             what follows from P; where nothing is asked
---     only-inside · only_one · only_end · only-up-to             a list and its fields
---     only-perhaps                                               a field that may be absent
---     only-nothing · only-either · only-maps · only-optionally   nothing, one of two, a value made of a value, () or a value
---     only-word · only-means · only-numeral · only-optional · only-labelled
+--     gives_so · holds_so · only_any                             what follows from P; where nothing is asked
+--     only_inside · only_one · only_end · only_up-to             a list and its fields
+--     only_perhaps                                               a field that may be absent
+--     only_nothing · only_either · only_maps · only_optionally   nothing, one of two, a value made of a value, () or a value
+--     only_word · only_means · only_numeral · only_optional · only_labelled
 use mathlib.Core.Path.{◌≡◌, refl, sym, ap, ap₂, subst, ◌∙◌}
 use mathlib.Core.Bool.{Bool, true, false, cond}
 use mathlib.Core.List.{List, [], ◌∷◌, append-nil}

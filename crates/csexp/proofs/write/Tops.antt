@@ -1,6 +1,6 @@
 -- A whole text in a buffer: counted first over a slice of no use, and then written into the part of the buffer that it fills.
 --     sent-there     it has room, and stands there
---     sent-not       it has none, and the buffer is as it was
+--     sent_not       it has none, and the buffer is as it was
 use mathlib.Core.Path.{◌≡◌, ap, ap₂, ◌∙◌}
 use mathlib.Core.Bool.{true, false}
 use mathlib.Core.List.{List, ◌++◌}

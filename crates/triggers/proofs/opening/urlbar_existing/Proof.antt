@@ -22,22 +22,22 @@ returns c =
     let a = c.args in
     let s = c.before.before.before.active_document-a in
     performs_as (urlbar a.url (Existing a.w)) (send (sending_to (Req a.w) a.url Unknown))
-    (existing_runs a.url a.w (view a.m.now) (fresh_labels a.f) true (some s.result.row) (sym c.before.before.before.before.if-is_top.true ∙ c.before.before.before.before.before.is_top.ensures) (looked_yes s.result.found s.result.row s.ensures c.before.before.if-a.true))
+    (existing_runs a.url a.w (view a.m.now) (fresh_labels a.f) true (some s.result.row) (sym c.before.before.before.before.if-top.true ∙ c.before.before.before.before.before.is_top-top.ensures) (looked_yes s.result.found s.result.row s.ensures c.before.before.if-a.true))
     c.load_into.ensures
 
-returns-2 : tie.Need-returns-then-is_top
+returns-2 : tie.Need-returns-then-top
 returns-2 c =
     let a = c.args in
     let s = c.before.before.active_document-a in
     refuses (urlbar a.url (Existing a.w)) a.f
-    (existing_runs a.url a.w (view a.m.now) (fresh_labels a.f) true none (sym c.before.before.before.if-is_top.true ∙ c.before.before.before.before.is_top.ensures) (looked-no s.result.found s.result.row s.ensures c.before.if-a.false))
+    (existing_runs a.url a.w (view a.m.now) (fresh_labels a.f) true none (sym c.before.before.before.if-top.true ∙ c.before.before.before.before.is_top-top.ensures) (looked-no s.result.found s.result.row s.ensures c.before.if-a.false))
     c.refuse.ensures
 
 returns-3 : tie.Need-returns
 returns-3 c =
     let a = c.args in
     refuses (urlbar a.url (Existing a.w)) a.f
-    (existing_runs a.url a.w (view a.m.now) (fresh_labels a.f) false (active_document (view a.m.now documents) a.w) (sym c.before.if-is_top.false ∙ c.before.before.is_top.ensures) refl)
+    (existing_runs a.url a.w (view a.m.now) (fresh_labels a.f) false (active_document (view a.m.now documents) a.w) (sym c.before.if-top.false ∙ c.before.before.is_top-top.ensures) refl)
     c.refuse-2.ensures
 
 pub urlbar_existing_spec : {M : Type 1} → statement M
