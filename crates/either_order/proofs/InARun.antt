@@ -88,8 +88,8 @@ play-two s u i j es eu r b c d m k p q n h =
     long : length (s ++ (u ++ r)) ≡ suc (suc n)
     long = let z = length-append s (u ++ r) in let y = length-append u r in omega arith
 
-pub either-order_in_a-run : EitherOrderInARun
-either-order_in_a-run b R free s u i j ri rj li lj A bi bj mi mj ei ej r =
+pub either_order_in_a_run : EitherOrderInARun
+either_order_in_a_run b R free s u i j ri rj li lj A bi bj mi mj ei ej r =
     let z = either_order b R free i j (record { kind = li; cookies = few-read s i ri }) (record { kind = lj; cookies = few-read u j rj }) A bi bj mi mj ei ej in
     let n : ℕ = (length s + (length u + length r)) - 2 in
     let x = not_empty s i ri in

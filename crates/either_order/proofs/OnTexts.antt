@@ -54,8 +54,8 @@ again s i r b c d e m out place p v q =
     let w : rehearse s d out place ≡ sending m d e out place = replied s i r d out place ∙ ap (λ (o : Result). returning o d out place) q in
     (subst (λ (x : Returned). SameLine x (rehearse s b out place)) (sym w) (subst (SameLine (sending m d e out place)) (sym p) z.0), ap (λ (x : Returned). x.browser) w ∙ z.1)
 
-pub either-order-on_texts : EitherOrderOnTexts
-either-order-on_texts b R free s u i j ri rj li lj A out lent place from vs vu =
+pub either_order_on_texts : EitherOrderOnTexts
+either_order_on_texts b R free s u i j ri rj li lj A out lent place from vs vu =
     let x = taken s i ri b out place vs in
     let y = taken u j rj b lent from vu in
     let z = either_order b R free i j (record { kind = li; cookies = few-read s i ri }) (record { kind = lj; cookies = few-read u j rj }) A x.0 y.0 x.1 y.1 x.2 y.2 in

@@ -109,11 +109,11 @@ module _ (F : Part) where
       (ap (λ (k : Key t). F.own (tag t k)) s.same_key ∙ o.0, subst (λ (l : List Label). All (λ a. F.own a ≡ true) l) (sym s.same-ties) o.1, subst (λ (l : List Label). All (λ a. sees F a ≡ true) l) (sym s.same-refs) o.2)
 
   -- rows that are put are level
-  level_put-own : (t : Table) (r : Row t) → Ok F t (put r) → LevelAt F.own (tag t (key_of t r)) (ties t r) (pulls t r)
-  level_put-own t r o = (λ a i. all_in (λ a. F.own a ≡ true) (ties t r) o.1 a i ∙ sym o.0, λ a i e. o.0)
+  level_put_own : (t : Table) (r : Row t) → Ok F t (put r) → LevelAt F.own (tag t (key_of t r)) (ties t r) (pulls t r)
+  level_put_own t r o = (λ a i. all_in (λ a. F.own a ≡ true) (ties t r) o.1 a i ∙ sym o.0, λ a i e. o.0)
 
-  level_put-other : (t : Table) (r : Row t) → Ok F t (put r) → LevelAt F.other (tag t (key_of t r)) (ties t r) (pulls t r)
-  level_put-other t r o = (
+  level_put_other : (t : Table) (r : Row t) → Ok F t (put r) → LevelAt F.other (tag t (key_of t r)) (ties t r) (pulls t r)
+  level_put_other t r o = (
     λ a i. F.apart a (all_in (λ a. F.own a ≡ true) (ties t r) o.1 a i) ∙ sym (F.apart (tag t (key_of t r)) o.0),
     λ a i e. not-both e (not-true (F.other a) (all_in (λ a. sees F a ≡ true) (refs t r) o.2 a (pulled-refs t r a i))),
   )
@@ -126,7 +126,7 @@ module _ (F : Part) where
       go (inr o) = h t r o
 
   pub whole-moved : (b c : Tables) → Whole F b → Moved F b c → Whole F c
-  whole-moved b c W m = record { sorted = m.sorted; owns = level_moved F.own b c W.owns m level_put-own; others = level_moved F.other b c W.others m level_put-other }
+  whole-moved b c W m = record { sorted = m.sorted; owns = level_moved F.own b c W.owns m level_put_own; others = level_moved F.other b c W.others m level_put_other }
 
   pub moved-self : (b : Tables) → Whole F b → Moved F b b
   moved-self b W = record { sorted = W.sorted; frame = λ t k n. refl; rows = λ t r i. inl (r, i, same_self t r) }

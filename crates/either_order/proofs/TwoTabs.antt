@@ -54,7 +54,7 @@ use Rattle.invariant.proofs.Numbered.Fresh.{in_among}
 use Rattle.invariant.proofs.Rooted.Tests.{or_neither, not-both}
 use Rattle.either_order.specs.Statement.{Made, empty, next, Apart}
 use Rattle.either_order.specs.TwoTabs.{set_up, set_up_lines, here, following, loading, redirecting, follow, load, redirect, documents_shown, questions_shown, in_the_end, follows_first, loads_first, redirects_first, redirects_last}
-use Rattle.either_order.proofs.OnTexts.{either-order-on_texts}
+use Rattle.either_order.proofs.OnTexts.{either_order_on_texts}
 
 -- LABELS IN COMMON.
 abbrev meet : List Label → List Label → Bool
@@ -159,7 +159,7 @@ Same s u out lent = (rehearse (text u) (rehearse (text s) here out 0).browser le
 
 same : (s u : String) (i j : Item) (out lent : List ℕ) {ti tj : Option WindowNumber} {hi hj : List Host} → Alone s i out ti hi → Alone u j lent tj hj → Beside i j → Same s u out lent
 same s u i j out lent I J B =
-    (either-order-on_texts here made-here (λ t. leb-true (length (here.tables t) + 8) (cap t) (every_one (λ u. leb (length (here.tables u) + 8) (cap u)) computed.eight_free t))
+    (either_order_on_texts here made-here (λ t. leb-true (length (here.tables t) + 8) (cap t) (every_one (λ u. leb (length (here.tables u) + 8) (cap u)) computed.eight_free t))
     (text s) (text u) i j I.is_read J.is_read I.is-local J.is-local (apart i j B) out lent 0 0 I.is-accepted J.is-accepted).2
 
 pub same-browser : Same following loading (zeros 100) [] × Same redirecting loading [] []

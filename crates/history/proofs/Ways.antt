@@ -25,7 +25,7 @@ use Rattle.stepping.specs.Performs.{Performs}
 use Rattle.stepping.specs.Wanted.{Unwanted}
 use Rattle.stepping.proofs.Carry.{then_roomy}
 use Rattle.stepping.proofs.Ways.{refuses, unfresh, silently, performs_as}
-use Rattle.sending.proofs.Cancelling.{bare_cancels-nothing}
+use Rattle.sending.proofs.Cancelling.{bare_cancels_nothing}
 use Rattle.history.specs.declared.Display.{Display}
 use Rattle.history.specs.declared.Display.TheVariants.{Lacks, Shows}
 use Rattle.history.specs.declared.Towards.{Towards}
@@ -92,7 +92,7 @@ module _ (storing : Program → Program) (w : WindowNumber) where
 -- 3 to 6: CANCELNAV with a bare number takes nothing
 pub ran : (w : WindowNumber) (from to : ℕ) (b : Tables) → run (turn w from to) b [] ≡ made (turned w from to b) none
 unfolding run
-ran w from to b = ap (λ (c : Tables). made c none) (bare_cancels-nothing w (turned w from to b))
+ran w from to b = ap (λ (c : Tables). made c none) (bare_cancels_nothing w (turned w from to b))
 
 -- A STEP that comes to NAVBACK or NAVFORWARD, and stores something before the history is turned.
 module _ (p : Program) (storing : Program → Program) (w : WindowNumber) (q : Towards) (f : Fresh) {m : List ℕ} {r : Performed} (s : run p (view m) (fresh_labels f) ≡ run (nav q w storing) (view m) (fresh_labels f)) (l : Way) (e : leads l ≡ way q w (view m documents)) where

@@ -57,16 +57,16 @@ module _ (ws : List Window) (ds : List Document) (o : Origin) (w v : WindowNumbe
   unfolding navigable_directly
   by-origin e h = ap (λ (b : Bool). b || (is_window v (reached_from steps ws ds w) || ancestor_has steps ws ds o v)) (sym (sym e ∙ h))
 
-  not_by-origin : {h x : Bool} → h ≡ has_origin o (active_document ds v) → h ≡ false → x ≡ (is_window v (reached_from steps ws ds w) || ancestor_has steps ws ds o v) → x ≡ navigable_directly ws ds o w v
+  not_by_origin : {h x : Bool} → h ≡ has_origin o (active_document ds v) → h ≡ false → x ≡ (is_window v (reached_from steps ws ds w) || ancestor_has steps ws ds o v) → x ≡ navigable_directly ws ds o w v
   unfolding navigable_directly
-  not_by-origin e h k = k ∙ ap (λ (b : Bool). b || (is_window v (reached_from steps ws ds w) || ancestor_has steps ws ds o v)) (sym (sym e ∙ h))
+  not_by_origin e h k = k ∙ ap (λ (b : Bool). b || (is_window v (reached_from steps ws ds w) || ancestor_has steps ws ds o v)) (sym (sym e ∙ h))
 
   module _ {h : Bool} (e : h ≡ has_origin o (active_document ds v)) (f : h ≡ false) where
     pub by-top : {t : Option WindowNumber} {x : Bool} → t ≡ reached_from steps ws ds w → x ≡ is_window v t → x ≡ true → true ≡ navigable_directly ws ds o w v
-    by-top g i k = not_by-origin e f (ap (λ (b : Bool). b || ancestor_has steps ws ds o v) (sym (sym (i ∙ ap (is_window v) g) ∙ k)))
+    by-top g i k = not_by_origin e f (ap (λ (b : Bool). b || ancestor_has steps ws ds o v) (sym (sym (i ∙ ap (is_window v) g) ∙ k)))
 
     pub by-ancestor : {t : Option WindowNumber} {x y : Bool} → t ≡ reached_from steps ws ds w → x ≡ is_window v t → x ≡ false → y ≡ ancestor_has steps ws ds o v → y ≡ navigable_directly ws ds o w v
-    by-ancestor g i k a = not_by-origin e f (a ∙ ap (λ (b : Bool). b || ancestor_has steps ws ds o v) (sym (sym (i ∙ ap (is_window v) g) ∙ k)))
+    by-ancestor g i k a = not_by_origin e f (a ∙ ap (λ (b : Bool). b || ancestor_has steps ws ds o v) (sym (sym (i ∙ ap (is_window v) g) ∙ k)))
 
   -- ALL FOUR, n windows left.
   module _ {n : ℕ} where

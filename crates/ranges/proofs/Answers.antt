@@ -44,24 +44,24 @@ CourseIn (handed d earlier matching) = DocumentIn d × MatchingIn matching
 CourseIn nothing_more = Unit {0}
 
 module _ (go : Course → Program) (g : (c : Course) → CourseIn c → Ranged (go c)) where
-  ranged_window-course : (v : WindowNumber) → WindowNumberIn v → (found : Option WindowNumber) (to : Option Url) → Held UrlIn to → (body : Body) → BodyIn body → Ranged (window_course v found to body go)
+  ranged-window_course : (v : WindowNumber) → WindowNumberIn v → (found : Option WindowNumber) (to : Option Url) → Held UrlIn to → (body : Body) → BodyIn body → Ranged (window_course v found to body go)
   unfolding window_course
-  ranged_window-course v i none to t body b = g nothing_more tt
-  ranged_window-course v i (some top) (some u) t body b = g (followed u) t
-  ranged_window-course v i (some top) none t (Number m) b = g nothing_more tt
-  ranged_window-course v i (some top) none t (Page script state) b =
+  ranged-window_course v i none to t body b = g nothing_more tt
+  ranged-window_course v i (some top) (some u) t body b = g (followed u) t
+  ranged-window_course v i (some top) none t (Number m) b = g nothing_more tt
+  ranged-window_course v i (some top) none t (Page script state) b =
       ranged_ask (history v) _ (λ ds _. ranged_ask (under _) _ (λ gone _. g (loaded v ds gone script state) (i, b.0, b.1)))
 
-  ranged_script-course : (matching : Matching) → MatchingIn matching → (to : Option Url) (found : Option Document) → Held DocumentIn found → Ranged (script_course matching to found go)
+  ranged-script_course : (matching : Matching) → MatchingIn matching → (to : Option Url) (found : Option Document) → Held DocumentIn found → Ranged (script_course matching to found go)
   unfolding script_course
-  ranged_script-course matching m (some u) found f = g nothing_more tt
-  ranged_script-course matching m none none f = g nothing_more tt
-  ranged_script-course matching m none (some d) f = ranged_ask (arrived d.number) _ (λ earlier _. g (handed d earlier matching) (f, m))
+  ranged-script_course matching m (some u) found f = g nothing_more tt
+  ranged-script_course matching m none none f = g nothing_more tt
+  ranged-script_course matching m none (some d) f = ranged_ask (arrived d.number) _ (λ earlier _. g (handed d earlier matching) (f, m))
 
   ranged_course : (r : Reference) (a : Answer) → ReferenceIn r → AnswerIn a → Ranged (course_of r a go)
   unfolding course_of
-  ranged_course (Req v) a r i = ranged_ask (reached v) _ (λ found _. ranged_window-course v r found (where_to a.status a.location) (where_in a.status a.location i.location) a.body i.body)
-  ranged_course (Xhr n matching) a r i = ranged_ask (listening n) _ (λ found f. ranged_script-course matching r.1 (where_to a.status a.location) found f)
+  ranged_course (Req v) a r i = ranged_ask (reached v) _ (λ found _. ranged-window_course v r found (where_to a.status a.location) (where_in a.status a.location i.location) a.body i.body)
+  ranged_course (Xhr n matching) a r i = ranged_ask (listening n) _ (λ found f. ranged-script_course matching r.1 (where_to a.status a.location) found f)
 
 -- PROCESSRESPONSE, for a waiting request and an answer in range.
 module _ (w : Waiting) (wi : WaitingIn w) (a : Answer) (ai : AnswerIn a) where

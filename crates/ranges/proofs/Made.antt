@@ -31,5 +31,5 @@ module _ (b c : Browser) (r : RunsTo empty_browser b) (s : List ℕ) (i : Item) 
   pub sends_in_range : MessageIn m
   sends_in_range = (in_range_step i b.tables c.tables (some m) (read_in_range s i x) (made_in_range r) (opened i b c (some m) e).1).1
 
-  pub what_went-out-is-read-back : sent_in (write (event_of m)) ≡ some m
-  what_went-out-is-read-back = text-back m sends_in_range
+  pub what_went_out_is_read_back : sent_in (write (event_of m)) ≡ some m
+  what_went_out_is_read_back = text-back m sends_in_range

@@ -19,7 +19,7 @@ use Rattle.wim.specs.Step.{Browser, empty_browser, Result, declined, accepted, s
 use Rattle.wim.specs.Wire.{Returned, refusing, put_into, returning, rehearsing, rehearse}
 use Rattle.wim.specs.Run.{performed}
 use Rattle.wim.specs.Made.{RunsTo}
-use Rattle.ranges.proofs.Made.{what_went-out-is-read-back}
+use Rattle.ranges.proofs.Made.{what_went_out_is_read_back}
 
 -- what was put into a buffer stands there
 put-there : (out bs : List ℕ) (place : ℕ) → place ≤ length out → take (length bs) (drop place (put_into out place bs)) ≡ bs
@@ -47,7 +47,7 @@ module _ (b : Browser) (R : RunsTo empty_browser b) (s out : List ℕ) (place : 
       given x = cond x (record { verdict = Accepted; browser = c; count = length bs; buffer = put_into out place bs }) (refusing NoRoom b out)
 
       go : (x : Bool) → leb (place + length bs) (length out) ≡ x → (given x).verdict ≡ Accepted → (n : Option Message) × (accepted c (some m) ≡ accepted (given x).browser n) × ReadBack n (given x) place
-      go true h v = let room = leb-true (place + length bs) (length out) h in (some m, refl, ap sent_in (put-there out bs place (omega arith)) ∙ what_went-out-is-read-back b c R s i m e f)
+      go true h v = let room = leb-true (place + length bs) (length out) h in (some m, refl, ap sent_in (put-there out bs place (omega arith)) ∙ what_went_out_is_read_back b c R s i m e f)
       go false h v = never (cc)
 
   pub written-is-read-back : (rehearse s b out place).verdict ≡ Accepted

@@ -60,14 +60,14 @@ module _ (w : WindowNumber) (wi : WindowNumberIn w) (d : Document) (di : Documen
   ranged_within x k g = ranged_ask (of_origin d x) _ (λ found h. g (otherwise d found) (otherwise_in d di found h))
 
   -- HREF
-  ranged_href-into : (url : Url) (noreferrer : Bool) → UrlIn url → (v : WindowNumber) → WindowNumberIn v → Ranged (href_into d url noreferrer v)
-  ranged_href-into url noreferrer u v i = ranged_cancel (Labelled (Req v)) _ (ranged_send _ (from_in _ _ url _ _ _ _ i u u.parameters (none_between _) tt))
+  ranged-href_into : (url : Url) (noreferrer : Bool) → UrlIn url → (v : WindowNumber) → WindowNumberIn v → Ranged (href_into d url noreferrer v)
+  ranged-href_into url noreferrer u v i = ranged_cancel (Labelled (Req v)) _ (ranged_send _ (from_in _ _ url _ _ _ _ i u u.parameters (none_between _) tt))
 
   ranged_href : (url : Url) (noreferrer : Bool) (target : Target) → UrlIn url → TargetIn target → Ranged (href w d storing url noreferrer target)
   unfolding href
   ranged_href url noreferrer NewWindow u t =
-      L _ (ranged_bring window _ (λ v i. ranged_edit windows _ _ (record { number = i; parent = tt; opener = opener_in noreferrer w wi }, tt) (ranged_href-into url noreferrer u _ i)))
-  ranged_href url noreferrer (Existing x) u t = ranged_into x t _ (λ v i. L _ (ranged_href-into url noreferrer u v i))
+      L _ (ranged_bring window _ (λ v i. ranged_edit windows _ _ (record { number = i; parent = tt; opener = opener_in noreferrer w wi }, tt) (ranged-href_into url noreferrer u _ i)))
+  ranged_href url noreferrer (Existing x) u t = ranged_into x t _ (λ v i. L _ (ranged-href_into url noreferrer u v i))
 
   -- IFRAME
   ranged_iframe_in : (url : Url) → UrlIn url → (holder : Document) → DocumentIn holder → Ranged (iframe_in d storing url holder)
@@ -87,15 +87,15 @@ module _ (w : WindowNumber) (wi : WindowNumberIn w) (d : Document) (di : Documen
       go true = from_in _ _ url _ _ _ _ r u v (none_between _) tt
       go false = from_in _ _ url _ _ _ _ r u u.parameters v di.location.host
 
-  ranged_form-into : (url : Url) (method : Method) (data' : Data) → UrlIn url → ValueIn data'.0 → (v : WindowNumber) → WindowNumberIn v → Ranged (form_into d url method data' v)
-  ranged_form-into url method data' u b v i = ranged_cancel (Labelled (Req v)) _ (ranged_send _ (form_in url method data' (Req v) u b i))
+  ranged-form_into : (url : Url) (method : Method) (data' : Data) → UrlIn url → ValueIn data'.0 → (v : WindowNumber) → WindowNumberIn v → Ranged (form_into d url method data' v)
+  ranged-form_into url method data' u b v i = ranged_cancel (Labelled (Req v)) _ (ranged_send _ (form_in url method data' (Req v) u b i))
 
   ranged_form : (url : Url) (method : Method) (data' : Data) (target : Target) → UrlIn url → ValueIn data'.0 → TargetIn target → Ranged (form w d storing url method data' target)
   unfolding form
   ranged_form url method data' NewWindow u b t =
       ranged_stop (not (is_form_method method)) _
-      (L _ (ranged_bring window _ (λ v i. ranged_edit windows _ _ (record { number = i; parent = tt; opener = wi }, tt) (ranged_form-into url method data' u b _ i))))
-  ranged_form url method data' (Existing x) u b t = ranged_stop (not (is_form_method method)) _ (ranged_into x t _ (λ v i. L _ (ranged_form-into url method data' u b v i)))
+      (L _ (ranged_bring window _ (λ v i. ranged_edit windows _ _ (record { number = i; parent = tt; opener = wi }, tt) (ranged-form_into url method data' u b _ i))))
+  ranged_form url method data' (Existing x) u b t = ranged_stop (not (is_form_method method)) _ (ranged_into x t _ (λ v i. L _ (ranged-form_into url method data' u b v i)))
 
   -- SETSCRIPT, SETSCRIPTSTATE
   ranged_setting : (x : WindowNumber) (f : Document → Document) → Stays f → Ranged (setting d storing x f)

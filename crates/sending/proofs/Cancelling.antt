@@ -12,9 +12,9 @@ use Rattle.stepping.specs.Holds.{Carries}
 use Rattle.stepping.proofs.Carry.{carries_same}
 use Rattle.sending.specs.Cancels.{cancelled}
 
-pub bare_cancels-nothing : (v : WindowNumber) (w : Tables) → cancelled (Bare v) w ≡ w
-bare_cancels-nothing v w =
+pub bare_cancels_nothing : (v : WindowNumber) (w : Tables) → cancelled (Bare v) w ≡ w
+bare_cancels_nothing v w =
     same_tables (cancelled (Bare v) w) w refl refl refl refl refl refl (keep_all (λ r. true) (w pending_dns) (λ x i. refl)) (keep_all (λ r. true) (w pending_requests) (λ x i. refl)) refl
 
 pub bare_carries : (v : WindowNumber) (m : List ℕ) → Carries (cancelled (Bare v)) [] (pending_requests ∷ pending_dns ∷ []) m m true
-bare_carries v m = carries_same (bare_cancels-nothing v) m
+bare_carries v m = carries_same (bare_cancels_nothing v) m

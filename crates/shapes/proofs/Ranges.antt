@@ -10,7 +10,7 @@ use Rattle.sorted.proofs.Never.{never}
 use Rattle.sorted.proofs.Count.{take_fill}
 use Rattle.csexp.specs.Term.{Terms, nil, cons}
 use Rattle.csexp.specs.Decode.{Decoder, Fields, and_then, inside, one, end, up_to, perhaps, either, maps, word, means, numeral, labelled_of}
-use Rattle.csexp.proofs.write.Only.{GivesOnly, HoldsOnly, gives_so, holds_so, only_any, only_inside, only_one, only_end, only_up-to, only_perhaps, only_either, only_maps, only_optionally, only_means}
+use Rattle.csexp.proofs.write.Only.{GivesOnly, HoldsOnly, gives_so, holds_so, only_any, only_inside, only_one, only_end, only_up_to, only_perhaps, only_either, only_maps, only_optionally, only_means}
 use Rattle.shapes.specs.Nouns.{WindowNumber, Cookie, NewWindow, Existing, Command, Back, Forward, Close, Headers, Reply, Event, Reload, GoForward, GoBack, Happening, Item}
 use Rattle.shapes.specs.Words.{most32}
 use Rattle.shapes.specs.Items.{window_of, cookie_of, blank_cookie, set_cookies, cookies_of, holder_of, matching_of, addressee_of, href_of, iframe_of, form_of, xhr_of, naming_of, post_message_of, command_of, body_of, no_headers, one_header_of, more_headers, headers_of, reply_of, message_of, script_of, urlbar_of, trigger_of, choices_of, fresh_of, event_of, item_of}
@@ -47,7 +47,7 @@ cookie_in =
 -- at most n values, each of them such
 list_in : {A : Type 0} {P : A → Type 0} {d : Decoder A} → Yields P d → (n : ℕ) → HoldsOnly (up_to n d) (λ ts l. (length l ≤ n) × All P l)
 list_in {A} {P} y n =
-    only_up-to {P = λ n ts l. (length l ≤ n) × All P l} (λ n. (omega arith, tt)) (gives_so y λ t a p n ts l h. let few = h.0 in (omega arith, (p, h.1))) n
+    only_up_to {P = λ n ts l. (length l ≤ n) × All P l} (λ n. (omega arith, tt)) (gives_so y λ t a p n ts l h. let few = h.0 in (omega arith, (p, h.1))) n
 
 set_in : (cs : List Cookie) → (length cs ≤ 4) × All CookieIn cs → SetCookiesIn (set_cookies cs)
 set_in cs h =

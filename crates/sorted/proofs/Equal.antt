@@ -11,7 +11,7 @@ use Rattle.sorted.specs.Table.{find, In, Edit, put, Sorted, at, insert, act, act
 use Rattle.sorted.proofs.Never.{never}
 use Rattle.sorted.proofs.Linear.{same_self, same-eq}
 use Rattle.sorted.proofs.Sorted.{only, sorted_only, sorted_insert, sorted-act}
-use Rattle.sorted.proofs.Lookup.{effect, at_key, at_none, at-put-same, at_only, at-act, in_act-other}
+use Rattle.sorted.proofs.Lookup.{effect, at_key, at_none, at-put-same, at_only, at-act, in_act_other}
 
 module _ {R K : Type 0} (key : R → K) (cmp : K → K → Order) (O : Linear K cmp) where
   -- EQUAL LOOKUPS, EQUAL TABLES.
@@ -131,4 +131,4 @@ module _ {R K : Type 0} (key : R → K) (cmp : K → K → Order) (O : Linear K 
   put_in r l = (at_key key cmp O (key r) (insert key cmp r l) r (at-put-same key cmp O r l)).0
 
   pub in_put : (r : R) (l : List R) (x : R) → Sorted key cmp l → In x l → (key x ≡ key r → ⊥) → In x (insert key cmp r l)
-  in_put r l x s i n = in_act-other key cmp O (put r) l x s i n
+  in_put r l x s i n = in_act_other key cmp O (put r) l x s i n

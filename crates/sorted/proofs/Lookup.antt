@@ -154,5 +154,5 @@ module _ {R K : Type 0} (key : R → K) (cmp : K → K → Order) (O : Linear K 
           go (inl q) = n e (inl refl) (subst (λ (d : Edit R K). Touches key d l k) (sym q) t.2)
           go (inr i) = m (t.0, i, t.2, t.3)
 
-  pub in_act-other : (e : Edit R K) (l : List R) (x : R) → Sorted key cmp l → In x l → (Touches key e l (key x) → ⊥) → In x (act key cmp e l)
-  in_act-other e l x s i n = (at_key (key x) (act key cmp e l) x (at_other e l (key x) n ∙ at_in l x s i)).0
+  pub in_act_other : (e : Edit R K) (l : List R) (x : R) → Sorted key cmp l → In x l → (Touches key e l (key x) → ⊥) → In x (act key cmp e l)
+  in_act_other e l x s i n = (at_key (key x) (act key cmp e l) x (at_other e l (key x) n ∙ at_in l x s i)).0

@@ -31,17 +31,17 @@ differs t u (v ∷ us) e (inl p) = go (eqb (index t) (index v)) refl (and_left (
     go false q n = ap (λ (x : Table). eqb (index t) (index x)) p ∙ q
 differs t u (v ∷ us) e (inr i) = differs t u us (and_right (not (eqb (index t) (index v))) (apart_from t us) e) i
 
-apart-from_append : (t : Table) (p ts : List Table) → apart_from t p ≡ true → apart_from t ts ≡ true → apart_from t (p ++ ts) ≡ true
-apart-from_append t [] ts e f = f
-apart-from_append t (u ∷ p) ts e f =
+apart_from-append : (t : Table) (p ts : List Table) → apart_from t p ≡ true → apart_from t ts ≡ true → apart_from t (p ++ ts) ≡ true
+apart_from-append t [] ts e f = f
+apart_from-append t (u ∷ p) ts e f =
     let other = not (eqb (index t) (index u)) in
-    and_both other (apart_from t (p ++ ts)) (and_left other (apart_from t p) e) (apart-from_append t p ts (and_right other (apart_from t p) e) f)
+    and_both other (apart_from t (p ++ ts)) (and_left other (apart_from t p) e) (apart_from-append t p ts (and_right other (apart_from t p) e) f)
 
 apart_append : (m p ts : List Table) → apart m p ≡ true → apart m ts ≡ true → apart m (p ++ ts) ≡ true
 apart_append [] p ts e f = refl
 apart_append (t ∷ m) p ts e f =
     and_both (apart_from t (p ++ ts)) (apart m (p ++ ts))
-    (apart-from_append t p ts (and_left (apart_from t p) (apart m p) e) (and_left (apart_from t ts) (apart m ts) f))
+    (apart_from-append t p ts (and_left (apart_from t p) (apart m p) e) (and_left (apart_from t ts) (apart m ts) f))
     (apart_append m p ts (and_right (apart_from t p) (apart m p) e) (and_right (apart_from t ts) (apart m ts) f))
 
 apart-split : (n m ts : List Table) → apart (n ++ m) ts ≡ true → (apart n ts ≡ true) × (apart m ts ≡ true)

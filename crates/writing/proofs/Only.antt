@@ -19,7 +19,7 @@ use Rattle.csexp.specs.Read.{Got, no, got, read}
 use Rattle.csexp.specs.Decode.{inside, end, up_to, perhaps}
 use Rattle.csexp.specs.Encode.{each, joins}
 use Rattle.csexp.proofs.Meaning.{read_sound}
-use Rattle.csexp.proofs.write.Only.{GivesOnly, HoldsOnly, gives_so, holds_so, only_nothing, only_inside, only_one, only_end, only_up-to, only_perhaps, only_either, only_maps, only_word, only_means}
+use Rattle.csexp.proofs.write.Only.{GivesOnly, HoldsOnly, gives_so, holds_so, only_nothing, only_inside, only_one, only_end, only_up_to, only_perhaps, only_either, only_maps, only_word, only_means}
 use Rattle.shapes.specs.Nouns.{Pair, Jar, OriginHeader, Unsent, Null, From, Referrer, Unknown, Known, Request}
 use Rattle.shapes.specs.Words.{most16}
 use Rattle.shapes.specs.Items.{url_of, header_of}
@@ -43,7 +43,7 @@ record PairsOnly (n : ℕ) (ts : Terms) (ps : List Pair) : Type 0 where
 pairs_only : (n : ℕ) → HoldsOnly (up_to n pair_of) (PairsOnly n)
 unfolding each
 pairs_only n =
-    only_up-to {P = PairsOnly} (λ n. record { terms = refl; few = omega arith; all = tt })
+    only_up_to {P = PairsOnly} (λ n. record { terms = refl; few = omega arith; all = tt })
     (pair_only λ p i n ts ps h. let l = h.few in record { terms = ap (cons (pair_term p)) h.terms; few = omega arith; all = (i, h.all) }) n
 
 cookies_only : {P : Term → List Pair → Type 0} → ((ps : List Pair) → length ps ≤ 64 → All PairIn ps → P (cookie_header (jar ps)) ps)

@@ -1,7 +1,7 @@
 -- A decoder finds only what was encoded: a law for each of its parts, the converse of those in Backs. To show P of every term and value that
 -- a decoder gives, it is enough to show P of what the encoder makes of each value.
 --     gives_so · holds_so · only_any                             what follows from P; where nothing is asked
---     only_inside · only_one · only_end · only_up-to             a list and its fields
+--     only_inside · only_one · only_end · only_up_to             a list and its fields
 --     only_perhaps                                               a field that may be absent
 --     only_nothing · only_either · only_maps · only_optionally   nothing, one of two, a value made of a value, () or a value
 --     only_word · only_means · only_numeral · only_optional · only_labelled
@@ -177,10 +177,10 @@ unfolding labelled labelled_of
 only_labelled w lo hi p = only_inside (only_one _ (only_word w (only_one _ (only_numeral lo hi λ n low high. only_end n (p n low high)))))
 
 -- at most n terms: P n holds of nothing, and P (n + 1) of one term more than P n holds of
-pub only_up-to : {A : Type 0} {d : Decoder A} {P : ℕ → Terms → List A → Type 0} → ((n : ℕ) → P n nil [])
+pub only_up_to : {A : Type 0} {d : Decoder A} {P : ℕ → Terms → List A → Type 0} → ((n : ℕ) → P n nil [])
     → GivesOnly d (λ t a. (n : ℕ) (ts : Terms) (l : List A) → P n ts l → P (suc n) (cons t ts) (a ∷ l)) → (n : ℕ) → HoldsOnly (up_to n d) (P n)
 unfolding up_to
-only_up-to {A} {d} {P} p g n = record { is = go n }
+only_up_to {A} {d} {P} p g n = record { is = go n }
   where
     go : (n : ℕ) (ts : Terms) (l : List A) → up_to n d ts ≡ some l → P n ts l
     go n nil l e = let z : [] ≡ l = cc in subst (P n nil) z (p n)

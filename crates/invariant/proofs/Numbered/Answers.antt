@@ -36,23 +36,23 @@ module _ {a : Tables} where
   orderly_takes nothing_more w x = orderly_done none
 
   module _ (go : Course → Program) (g : (c : Course) → Orderly a (go c)) where
-    orderly_window-course : (v : WindowNumber) (found : Option WindowNumber) (to : Option Url) (body : Body) → Orderly a (window_course v found to body go)
+    orderly-window_course : (v : WindowNumber) (found : Option WindowNumber) (to : Option Url) (body : Body) → Orderly a (window_course v found to body go)
     unfolding window_course
-    orderly_window-course v none to body = g nothing_more
-    orderly_window-course v (some top) (some u) body = g (followed u)
-    orderly_window-course v (some top) none (Number m) = g nothing_more
-    orderly_window-course v (some top) none (Page script state) = orderly_ask (history v) _ (λ ds. orderly_ask (under _) _ (λ gone. g (loaded v ds gone script state)))
+    orderly-window_course v none to body = g nothing_more
+    orderly-window_course v (some top) (some u) body = g (followed u)
+    orderly-window_course v (some top) none (Number m) = g nothing_more
+    orderly-window_course v (some top) none (Page script state) = orderly_ask (history v) _ (λ ds. orderly_ask (under _) _ (λ gone. g (loaded v ds gone script state)))
 
-    orderly_script-course : (m : Matching) (to : Option Url) (found : Option Document) → Orderly a (script_course m to found go)
+    orderly-script_course : (m : Matching) (to : Option Url) (found : Option Document) → Orderly a (script_course m to found go)
     unfolding script_course
-    orderly_script-course m (some u) found = g nothing_more
-    orderly_script-course m none none = g nothing_more
-    orderly_script-course m none (some d) = orderly_ask (arrived d.number) _ (λ earlier. g (handed d earlier m))
+    orderly-script_course m (some u) found = g nothing_more
+    orderly-script_course m none none = g nothing_more
+    orderly-script_course m none (some d) = orderly_ask (arrived d.number) _ (λ earlier. g (handed d earlier m))
 
     orderly_course : (r : Reference) (x : Answer) → Orderly a (course_of r x go)
     unfolding course_of
-    orderly_course (Req v) x = orderly_ask (reached v) _ (λ found. orderly_window-course v found (where_to x.status x.location) x.body)
-    orderly_course (Xhr n m) x = orderly_ask (listening n) _ (orderly_script-course m (where_to x.status x.location))
+    orderly_course (Req v) x = orderly_ask (reached v) _ (λ found. orderly-window_course v found (where_to x.status x.location) x.body)
+    orderly_course (Xhr n m) x = orderly_ask (listening n) _ (orderly-script_course m (where_to x.status x.location))
 
   orderly_response : (r : Reference) (w : Waiting) (x : Answer) (new : List Cookie) → Orderly a (process_response r w x new)
   unfolding process_response

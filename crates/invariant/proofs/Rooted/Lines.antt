@@ -111,10 +111,10 @@ module _ (ws : List Window) (ds : List Document) where
             which (inl p) = let z = held-row x d f in ap (top_above k ws ds) (sym (own z.1 d z.4 p)) ∙ e
             which (inr q) = further k d q e ih
 
-    pub not_under-own : (m k : ℕ) (t : WindowNumber) → is_under m ws ds gone v ≡ true → top_above k ws ds v ≡ some t → ⊥
+    pub not_under_own : (m k : ℕ) (t : WindowNumber) → is_under m ws ds gone v ≡ true → top_above k ws ds v ≡ some t → ⊥
     unfolding top_above
-    not_under-own m zero t u e = never (cc)
-    not_under-own m (suc k) t u e = not_under-own m k t u (under-shorter m k v t u e)
+    not_under_own m zero t u e = never (cc)
+    not_under_own m (suc k) t u e = not_under_own m k t u (under-shorter m k v t u e)
 
 -- ONE PAIR OF TABLES FOLLOWS ANOTHER, as far as the windows of a part: rows of these stay, and so do the documents above them.
 module _ (ws vs : List Window) (ds es : List Document) (P : WindowNumber → Type 0)

@@ -22,7 +22,7 @@ use Rattle.wim.specs.Response.{later_than, up_to}
 use Rattle.invariant.proofs.Rooted.Tests.{fails, not-both}
 use Rattle.wim.proofs.Numbers.{row-numbered, found-document, window-eq}
 use Rattle.invariant.proofs.Rooted.Stands.{Follows, Stands}
-use Rattle.invariant.proofs.Rooted.Lines.{not_under-own}
+use Rattle.invariant.proofs.Rooted.Lines.{not_under_own}
 use Rattle.invariant.proofs.Rooted.Counted.{rising, Gapless, counted}
 use Rattle.invariant.proofs.Rooted.Cut.{windows_left, documents_left, inputs_left, Cut, row_stays, was, stays, stands-cut}
 use Rattle.invariant.proofs.Rooted.Removed.{numbers, numbered_in, Once, takes_window, takes_document, Closed, window-goes, document-stays, stays-document, cut-removed}
@@ -66,7 +66,7 @@ module _ (ws : List Window) (ds : List Document) (is : List Input) (S : Stands w
   not_under =
       let z = row-numbered ws v r found in
       let x = S.framed.tops-there r z.0 in
-      fails (is_under steps ws ds gone v) (λ u. not_under-own ws ds gone v (own o) steps steps x.0 u (ap (top_above steps ws ds) (sym z.1) ∙ x.1))
+      fails (is_under steps ws ds gone v) (λ u. not_under_own ws ds gone v (own o) steps steps x.0 u (ap (top_above steps ws ds) (sym z.1) ∙ x.1))
 
   window-stays : W v ≡ false
   window-stays = fails (W v) (λ q. not-both (window-goes ws ds is S s once gone closed v q) not_under)

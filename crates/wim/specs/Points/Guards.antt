@@ -152,7 +152,7 @@ pub record Guards : Type 0 where
   pub methods_refused : map xhr_refusal (Get ∷ Head ∷ Post ∷ Put ∷ Delete ∷ Connect ∷ Options ∷ Trace ∷ []) ≡ 0 ∷ 0 ∷ 0 ∷ 0 ∷ 0 ∷ 4 ∷ 0 ∷ 4 ∷ []
   -- A9:46 to 54: cookies that aren't of the session, local storage and STS stay
   pub closing_keeps : counts after_closing ≡ 0 ∷ 0 ∷ 3 ∷ 1 ∷ 0 ∷ 0 ∷ 0 ∷ 0 ∷ 1 ∷ []
-  pub closing_keeps-cookies : map cookie_number (after_closing cookies) ≡ 1 ∷ 3 ∷ 4 ∷ []
+  pub closing_keeps_cookies : map cookie_number (after_closing cookies) ≡ 1 ∷ 3 ∷ 4 ∷ []
   -- Definition 35 and A7:2 to 9: of other origins only number and subwindows, every opener, secure cookies only over S, the session's value of the top-level window
   pub shown_in_frame : shown_in 2 ≡ text "((((6:window1:1)(((8:document2:11)(3:URL1:P1:51:7()())()()1:01:0((11:POSTMESSAGE(6:window1:5)(1:51:S)1:3))(((6:window1:2)(((8:document2:21)(3:URL1:P1:51:7()())()()1:01:0()()1:T))())((6:window1:3)(((8:document2:31)()))()))1:T))())((6:window1:5)(((8:document2:51)()))(6:window1:1)))(8:document2:21)1:0()((1:21:1))1:61:8)"
   pub shown-over-s : shown_in 5 ≡ text "((((6:window1:1)(((8:document2:11)(((6:window1:2)(((8:document2:21)()))())((6:window1:3)(((8:document2:31)()))()))))())((6:window1:5)(((8:document2:51)(3:URL1:S1:51:7()())()()1:01:0()()1:T))(6:window1:1)))(8:document2:51)1:0()((1:11:1)(1:21:1))()())"

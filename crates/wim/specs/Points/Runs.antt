@@ -14,8 +14,8 @@ refusal_1_stops = record {
 }
 
 -- A number that stands in the tables under its label is 5; under another label it is free.
-abbrev pub fresh-number_in_use : Run
-fresh-number_in_use = record {
+abbrev pub fresh_number_in_use : Run
+fresh_number_in_use = record {
   items =
       "((1:11:17:TRIGGER)(6:urlbar3:new1:P1:51:7()())((6:window2:30)(7:request2:31)(3:dns2:32)))"
       ∷ "((1:11:17:TRIGGER)(6:urlbar3:new1:P1:51:7()())((6:window2:30)(7:request1:1)(3:dns1:1)))"
@@ -33,8 +33,8 @@ fresh-number_in_use = record {
 }
 
 -- Other host, other number, answered twice: 3.
-abbrev pub dns-number-and-host_must_match : Run
-dns-number-and-host_must_match = record {
+abbrev pub dns_number_and_host_must_match : Run
+dns_number_and_host_must_match = record {
   items =
       "((1:11:17:TRIGGER)(6:urlbar3:new1:P1:51:7()())((6:window2:30)(7:request2:31)(3:dns2:32)))"
       ∷ "((1:11:1(11:DNSResolved1:61:9(3:dns2:32)))()())"
@@ -52,8 +52,8 @@ dns-number-and-host_must_match = record {
 }
 
 -- Wrong number under the key 3, unknown key 3, plain answer to a keyed request 3, then taken, then gone.
-abbrev pub encrypted_answer-by-key-and-number : Run
-encrypted_answer-by-key-and-number = record {
+abbrev pub encrypted_answer_by_key_and_number : Run
+encrypted_answer_by_key_and_number = record {
   items =
       "((1:11:17:TRIGGER)(6:urlbar3:new1:S1:51:7()())((6:window1:1)(7:request1:1)(3:dns1:1)))"
       ∷ "((1:11:1(11:DNSResolved1:51:9(3:dns1:1)))()((3:key1:1)))"
@@ -127,8 +127,8 @@ script-later-cookie-wins = record {
 }
 
 -- 2 is not navigable from 1: the reference is window 1, whose waiting question is cancelled.
-abbrev pub fallen_back-href-cancels-own-window : Run
-fallen_back-href-cancels-own-window = record {
+abbrev pub fallen_back_href_cancels_own_window : Run
+fallen_back_href_cancels_own_window = record {
   items =
       "((1:11:17:TRIGGER)(6:urlbar3:new1:P1:51:7()())((6:window1:1)(7:request1:1)(3:dns1:1)))"
       ∷ "((1:11:1(11:DNSResolved1:51:9(3:dns1:1)))()())"
@@ -181,8 +181,8 @@ referrer_policy_origin = record {
 }
 
 -- A8:17: kept from the Origin's own host, kept within one host, null at the first foreign hop, null stays.
-abbrev pub redirect_307_post_origin-kept-then_null : Run
-redirect_307_post_origin-kept-then_null = record {
+abbrev pub redirect_307_post_origin_kept_then_null : Run
+redirect_307_post_origin_kept_then_null = record {
   items =
       "((1:11:17:TRIGGER)(6:urlbar3:new1:P1:51:7()())((6:window1:1)(7:request1:1)(3:dns1:1)))"
       ∷ "((1:11:1(11:DNSResolved1:51:9(3:dns1:1)))()())"
@@ -233,8 +233,8 @@ redirect_sees_own_headers_first = record {
 }
 
 -- Wrong turn 3: window 31 under an inactive document is not reached (3); back makes it reached again.
-abbrev pub wrong_turn-window-under_inactive_document : Run
-wrong_turn-window-under_inactive_document = record {
+abbrev pub wrong_turn_window_under_inactive_document : Run
+wrong_turn_window_under_inactive_document = record {
   items =
       "((1:11:17:TRIGGER)(6:urlbar3:new1:P1:51:7()())((6:window2:30)(7:request2:30)(3:dns2:30)))"
       ∷ "((1:11:1(11:DNSResolved1:51:9(3:dns2:30)))()())"
@@ -272,8 +272,8 @@ wrong_turn-window-under_inactive_document = record {
 }
 
 -- Wrong turn 1: document 8 sits in window 9 while window 8 exists; the XHR answer becomes an input, loads nothing.
-abbrev pub wrong_turn-xhr-answer-under-window-number : Run
-wrong_turn-xhr-answer-under-window-number = record {
+abbrev pub wrong_turn_xhr_answer_under_window_number : Run
+wrong_turn_xhr_answer_under_window_number = record {
   items =
       "((1:11:17:TRIGGER)(6:urlbar3:new1:P1:51:7()())((6:window1:8)(7:request1:9)(3:dns1:9)))"
       ∷ "((1:11:1(11:DNSResolved1:51:9(3:dns1:9)))()())"
@@ -307,15 +307,15 @@ wrong_turn-xhr-answer-under-window-number = record {
 abbrev pub runs : List Run
 runs =
     refusal_1_stops
-    ∷ fresh-number_in_use
-    ∷ dns-number-and-host_must_match
-    ∷ encrypted_answer-by-key-and-number
+    ∷ fresh_number_in_use
+    ∷ dns_number_and_host_must_match
+    ∷ encrypted_answer_by_key_and_number
     ∷ cookies-by-host
     ∷ script-later-cookie-wins
-    ∷ fallen_back-href-cancels-own-window
+    ∷ fallen_back_href_cancels_own_window
     ∷ referrer_policy_origin
-    ∷ redirect_307_post_origin-kept-then_null
+    ∷ redirect_307_post_origin_kept_then_null
     ∷ redirect_sees_own_headers_first
-    ∷ wrong_turn-window-under_inactive_document
-    ∷ wrong_turn-xhr-answer-under-window-number
+    ∷ wrong_turn_window_under_inactive_document
+    ∷ wrong_turn_xhr_answer_under_window_number
     ∷ []
