@@ -1,0 +1,2 @@
+-- The loops over any table.
+pub mod Tests
