@@ -8,7 +8,7 @@
 use mathlib.Core.Path.{◌≡◌, refl, sym, ap, ◌∙◌}
 use mathlib.Core.Bool.{Bool, true, false, cond}
 use mathlib.Core.List.{List, [], ◌∷◌, ◌++◌, append-nil}
-use mathlib.Core.Option.{Option, none, some}
+use Rattle.std.specs.Prelude.{Option, None as none, Some as some}
 use Prim.Native.Nat.{ℕ, ◌+◌, ◌-◌, ◌≤◌}
 use native.Mathlib.Omega.{arith}
 use lib.ListN.{length, drop, length-drop, length-append}
@@ -21,7 +21,7 @@ use Rattle.csexp.specs.At.{At, fails, ends, place, term_at}
 use Rattle.csexp.specs.Decode.{Decoder}
 use Rattle.csexp.specs.Answers.{found, decode, Reads}
 use Rattle.csexp.specs.Limits.{shallow, ending, ending_of, all_of, whole_of}
-use Rattle.csexp.specs.declared.text.Ending.TheVariants.{Whole, Broken}
+use Rattle.std.specs.Prelude.{Some as Whole, None as Broken}
 use Rattle.csexp.proofs.Basic.{false_true}
 use Rattle.csexp.proofs.Terms as terms
 use Rattle.csexp.proofs.Places.{read_left}

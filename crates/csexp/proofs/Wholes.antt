@@ -2,7 +2,7 @@
 use mathlib.Core.Path.{◌≡◌, refl, sym, ap, ◌∙◌}
 use mathlib.Core.Bool.{Bool, true, false, cond}
 use mathlib.Core.List.{List, [], ◌∷◌}
-use mathlib.Core.Option.{none, some}
+use Rattle.std.specs.Prelude.{None as none, Some as some}
 use Prim.Native.Nat.{ℕ, ◌-◌, ◌≤◌, ◌<◌}
 use native.Mathlib.Omega.{arith}
 use lib.ListN.{length, length-append}
@@ -14,7 +14,7 @@ use Rattle.csexp.specs.Read.{Got, no, got, read}
 use Rattle.csexp.specs.At.{fails, ends, place, term_at, seen}
 use Rattle.csexp.specs.Answers.{found, decode, Reads}
 use Rattle.csexp.specs.Limits.{shallow, ending, ending_of, all_of, whole_of}
-use Rattle.csexp.specs.declared.text.Ending.TheVariants.{Whole, Broken}
+use Rattle.std.specs.Prelude.{Some as Whole, None as Broken}
 use Rattle.csexp.proofs.Terms.{read_sound}
 use Rattle.csexp.proofs.Steps.{there, nowhere}
 

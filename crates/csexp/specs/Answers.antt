@@ -1,7 +1,7 @@
 -- What the readers of the code answer: a value and the position behind it, which lies past the text where nothing was found. The
 -- parameters of these records are what a contract speaks of, so that a law takes them from the calls that it is given.
 use Rattle.std.specs.Prelude.{◌≡◌, cond, List, [], ℕ, ◌-◌, ◌≤◌, length, get_or, take, drop, leb, ltb}
-use Rattle.std.proofs.Math.Option.{Option, none, some}
+use Rattle.std.specs.Prelude.{Option, None as none, Some as some}
 use Rattle.csexp.specs.At.{At, fails, ends, seen, term_at, terms_at, mark_at, number_at, string_at}
 use Rattle.csexp.specs.Decode.{Decoder, Fields}
 

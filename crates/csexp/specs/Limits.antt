@@ -1,13 +1,16 @@
 -- The limits of a text: how many bytes it has at most, and how many lists stand inside one another.
 use Rattle.std.specs.Prelude.{Bool, false, cond, List, [], ◌∷◌, ℕ, ◌-◌, length, leb}
-use Rattle.std.proofs.Math.Option.{none, some}
+use Rattle.std.specs.Prelude.{None as none, Some as some}
 use Rattle.csexp.specs.Term.{Term, levels, levels_in}
 use Rattle.csexp.specs.Read.{Got, no, got, read}
 use Rattle.csexp.specs.At.{At, fails, ends, term_at}
 use Rattle.csexp.specs.Decode.{Decoder, Fields}
 use Rattle.csexp.specs.Answers.{decode}
-use Rattle.csexp.specs.declared.text.Ending.{Ending}
-use Rattle.csexp.specs.declared.text.Ending.TheVariants.{Whole, Broken}
+use Rattle.std.specs.Prelude.{Option, Some as Whole, None as Broken}
+
+-- where a term ends, or that there is none within the limits
+abbrev pub Ending : Type 0
+Ending = Option ℕ
 
 -- 01 "Numbers, names, sizes": one item of text has at most 16,384 bytes and 16 levels of lists
 abbrev pub item_bytes : ℕ

@@ -9,24 +9,17 @@ pub const ITEM_BYTES: usize = 16384;
 
 pub const ITEM_LEVELS: usize = 16;
 
-// Where a term ends, or that there is none within the limits.
-#[derive(Clone, Copy)]
-pub enum Ending {
-    Whole(usize),
-    Broken,
-}
-
-// The first term from `at` on: at most `bytes` bytes, counted from `at`, and at most `levels` levels.
-pub fn ends_at(s: &[u8], at: usize, bytes: usize, levels: usize) -> Ending
+// Where the first term from `at` on ends, if there is one within the limits: at most `bytes` bytes, counted from `at`, and at most `levels` levels.
+pub fn ends_at(s: &[u8], at: usize, bytes: usize, levels: usize) -> Option<usize>
     ensures { result ≡ ending_of bytes levels s.now at }
 {
     let p = one_term(s, at, levels);
     if p <= s.len() {
         if p - at <= bytes {
-            return Ending::Whole(p);
+            return Some(p);
         }
     }
-    Ending::Broken
+    None
 }
 
 // The text is one canonical term within the limits, and nothing else.

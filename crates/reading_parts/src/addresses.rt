@@ -43,13 +43,13 @@ pub fn read_fragment(s: &[u8], at: usize) -> FragmentAt
     let e = empty_list(s, at);
     if e <= s.len() {
         return FragmentAt {
-            value: Fragment::Absent,
+            value: None,
             next: e,
         };
     }
     let n = number(s, at, 1, 4294967295);
     FragmentAt {
-        value: Fragment::Named(n.value),
+        value: Some(n.value),
         next: n.next,
     }
 }

@@ -77,13 +77,13 @@ pub fn read_matching(s: &[u8], at: usize) -> MatchingAt
     let e = empty_list(s, at);
     if e <= s.len() {
         return MatchingAt {
-            value: Matching::Unmatched,
+            value: None,
             next: e,
         };
     }
     let n = number(s, at, 0, 4294967295);
     MatchingAt {
-        value: Matching::By(n.value),
+        value: Some(n.value),
         next: n.next,
     }
 }
@@ -101,14 +101,14 @@ pub fn read_addressee(s: &[u8], at: usize) -> AddresseeAt
     let e = empty_list(s, at);
     if e <= s.len() {
         return AddresseeAt {
-            value: Addressee::Anyone,
+            value: None,
             next: e,
         };
     }
     let o = read_origin(s, at);
     let origin = o.value;
     AddresseeAt {
-        value: Addressee::Only(origin),
+        value: Some(origin),
         next: o.next,
     }
 }
