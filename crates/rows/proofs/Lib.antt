@@ -1,2 +1,4 @@
--- The loops over any table.
+-- The loops over any table, and a row put in.
+pub mod Slices
 pub mod Tests
+pub mod Places

@@ -1,3 +1,4 @@
+-- A count beyond the capacity reads as the capacity.
 use Rattle.std.proofs.Common.{sym, ◌∙◌}
 use Rattle.memory.proofs.Table.{counted}
 use Rattle.rows.specs.Tables.{laid}
