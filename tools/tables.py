@@ -400,7 +400,7 @@ def with_jar(table):
 def coded(table):
     """The laws of a row with a header: a row's numbers but for its header's are the first; what is written is read."""
     w, of, jar = table.own, table.decode, 'r' + ''.join(f'.{x}' for x in table.header)
-    told = []
+    told, first = [], table.leaf(next(p for p, _ in leaves(table.fields))).width > 1
     for path, f in leaves(table.fields):
         if isinstance(f, Header):
             continue
@@ -412,7 +412,7 @@ use mathlib.Core.List.{{List}}
 use Prim.Native.Nat.{{ℕ}}
 use native.Mathlib.Omega.{{arith}}
 use lib.ListN.{{length, take}}
-use lib.Seq.{{take-take, get_or-take}}
+use lib.Seq.{{{'take-take, ' if first else ''}get_or-take}}
 use Rattle.tables.specs.Nouns.{{Jar, {table.row}}}
 use Rattle.memory.specs.Rows.{{Stored}}
 use Rattle.memory.proofs.Parts.{{part}}

@@ -4,7 +4,7 @@ use mathlib.Core.List.{List}
 use Prim.Native.Nat.{ℕ}
 use native.Mathlib.Omega.{arith}
 use lib.ListN.{length, take}
-use lib.Seq.{take-take, get_or-take}
+use lib.Seq.{get_or-take}
 use Rattle.tables.specs.Nouns.{Jar, Question}
 use Rattle.memory.specs.Rows.{Stored}
 use Rattle.memory.proofs.Parts.{part}

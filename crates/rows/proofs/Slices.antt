@@ -1,9 +1,9 @@
 -- The numbers of a row are a part of the memory.
-use mathlib.Core.Path.{◌≡◌, sym, ap, ap₂, ◌∙◌}
+use mathlib.Core.Path.{◌≡◌, sym, ap₂, ◌∙◌}
 use mathlib.Core.List.{List, []}
 use Prim.Native.Nat.{ℕ, ◌+◌, ◌-◌, ◌≤◌, ◌<◌}
 use native.Mathlib.Omega.{arith}
-use lib.ListN.{length, get_or, take, drop, get_or-eq_default}
+use lib.ListN.{get_or, take, drop, get_or-eq_default}
 use Rattle.memory.specs.Rows.{Layout, rows, place}
 use Rattle.memory.proofs.Table.{rows_length, row_at}
 

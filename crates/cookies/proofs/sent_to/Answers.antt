@@ -4,7 +4,7 @@ use native.Mathlib.Omega.{arith}
 use Rattle.sorted.proofs.Count.{mapped}
 use Rattle.tables.specs.Nouns.{Jar}
 use Rattle.tables.specs.Rows.{jar}
-use Rattle.memory.proofs.Picking.{pick_start, pick_skips, pick_takes, pick_end, pick_below}
+use Rattle.memory.proofs.Picking.{pick_start, pick_skips, pick_takes, pick_end}
 use Rattle.cookies.proofs.sent_to.Goals as goal
 use Rattle.cookies.proofs.sent_to.Goals.{then-goes_to, else-goes_to}
 

@@ -1,7 +1,6 @@
 -- The first row that does not stand before the key.
 use Rattle.std.proofs.Common.{sym, ap, ◌∙◌}
 use native.Mathlib.Omega.{arith}
-use Rattle.sorted.specs.declared.Order.{Order}
 use Rattle.memory.proofs.Loops.{search_start}
 use Rattle.rows.proofs.Places.{stands_after, stands_there, stands_before, stands_last}
 use Rattle.rows.proofs.Table.seek.Goals as goal
