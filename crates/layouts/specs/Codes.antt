@@ -1,5 +1,5 @@
 -- Parts of rows as numbers: a part's decoder takes the list of the part's own numbers. Any numbers say something.
-use Rattle.std.specs.Prelude.{Bool, cond, not, List, ℕ, ◌%◌, eqb, get_or, take, drop}
+use Rattle.std.specs.Prelude.{Bool, cond, not, List, ℕ, Option, None, Some, ◌%◌, eqb, get_or, take, drop}
 use Rattle.tables.specs.Nouns.{Parent, Top, Under, Opener, Nobody, OpenedBy, Policy, Unset, NoReferrer, OriginOnly, Seal, Keyless, Keyed, Body, Number, Page, News, Answered, Posted, Origin, Protocol, Plain, Secure, Fragment, Absent, Named, Url, Method, Get, Head, Post, Put, Delete, Connect, Options, Trace, OriginHeader, Unsent, Null, From, Referrer, Unknown, Known, Matching, Unmatched, By, Reference, Req, Xhr}
 
 abbrev pub flag_of : ℕ → Bool
@@ -7,6 +7,10 @@ flag_of tag = not (eqb tag 0)
 
 abbrev pub protocol_of : ℕ → Protocol
 protocol_of tag = cond (eqb tag 0) Plain Secure
+
+-- what may be absent
+abbrev pub perhaps : ℕ → ℕ → Option ℕ
+perhaps tag n = cond (eqb tag 0) None (Some n)
 
 abbrev pub fragment_of : ℕ → ℕ → Fragment
 fragment_of tag n = cond (eqb tag 0) Absent (Named n)

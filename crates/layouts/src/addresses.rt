@@ -1,9 +1,9 @@
 // Origins (000 Definition 13) in two numbers, the Origin header in three, addresses (000 Definition 12) in six, referrers in seven.
-ghost use Rattle.std.specs.Prelude.{◌≡◌, get_or, take, drop};
-ghost use Rattle.layouts.specs.Codes.{site_of, origin_of, fragment_of, url_of, referrer_of};
+ghost use Rattle.std.specs.Prelude.{◌≡◌, take, drop};
+ghost use Rattle.layouts.specs.Codes.{site_of, origin_of, url_of, referrer_of};
 
-use super::single::{at, half, low, protocol_of, protocol_tag};
-use types::{Fragment, Host, Origin, OriginHeader, Parameters, Path, Referrer, Url};
+use super::single::{at, half, low, perhaps, perhaps_numbers, protocol_of, protocol_tag};
+use types::{Host, Origin, OriginHeader, Parameters, Path, Referrer, Url};
 
 pub fn site_at(c: &[u32], p: usize) -> Origin
     ensures { result ≡ site_of (take 2 (drop p c.now)) }
@@ -55,29 +55,11 @@ pub fn origin_numbers(x: OriginHeader) -> [u32; 3]
     }
 }
 
-fn fragment_of(tag: u32, n: u32) -> Fragment
-    ensures { result ≡ fragment_of tag n }
-{
-    match tag {
-        0 => None,
-        _ => Some(n),
-    }
-}
-
-fn fragment_numbers(x: Fragment) -> [u32; 2]
-    ensures { fragment_of (get_or result 0 0) (get_or result 1 0) ≡ x }
-{
-    match x {
-        None => [0, 0],
-        Some(n) => [1, n],
-    }
-}
-
 pub fn url_at(c: &[u32], p: usize) -> Url
     ensures { result ≡ url_of (take 6 (drop p c.now)) }
 {
     let protocol = protocol_of(at(c, p, 0));
-    let fragment = fragment_of(at(c, p, 4), at(c, p, 5));
+    let fragment = perhaps(at(c, p, 4), at(c, p, 5));
     Url {
         protocol: protocol,
         host: Host(half(at(c, p, 1))),
@@ -95,7 +77,7 @@ pub fn url_numbers(x: Url) -> [u32; 6]
     let p = protocol_tag(protocol);
     let h = low(x.host.0);
     let q = low(x.path.0);
-    let f = fragment_numbers(fragment);
+    let f = perhaps_numbers(fragment);
     [p, h, q, x.parameters.0, f[0], f[1]]
 }
 

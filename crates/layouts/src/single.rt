@@ -1,6 +1,6 @@
 // What one number says: the k-th of a part, a truth, a short number, a kind.
 ghost use Rattle.std.specs.Prelude.{◌≡◌, ℕ, ◌<◌, ◌%◌, get_or, take, drop};
-ghost use Rattle.layouts.specs.Codes.{flag_of, protocol_of, method_of, policy_of};
+ghost use Rattle.layouts.specs.Codes.{perhaps, flag_of, protocol_of, method_of, policy_of};
 
 use types::{Method, Policy, Protocol};
 
@@ -8,7 +8,11 @@ use types::{Method, Policy, Protocol};
 pub fn at(c: &[u32], p: usize, k: usize) -> u32
     ensures { (w : ℕ) → k < w → result ≡ get_or (take w (drop p c.now)) k 0 }
 {
-    if p < c.len() && k < c.len() - p { c[p + k] } else { 0 }
+    if p < c.len() && k < c.len() - p {
+        c[p + k]
+    } else {
+        0
+    }
 }
 
 // Number i; beyond the end there are zeros.
@@ -16,6 +20,22 @@ pub fn number(c: &[u32], i: usize) -> u32
     ensures { result ≡ get_or c.now i 0 }
 {
     if i < c.len() { c[i] } else { 0 }
+}
+
+// What may be absent: a tag, and behind it a number.
+pub fn perhaps(tag: u32, n: u32) -> Option<u32>
+    ensures { result ≡ perhaps tag n }
+{
+    if tag == 0 { None } else { Some(n) }
+}
+
+pub fn perhaps_numbers(x: Option<u32>) -> [u32; 2]
+    ensures { perhaps (get_or result 0 0) (get_or result 1 0) ≡ x }
+{
+    match x {
+        None => [0, 0],
+        Some(n) => [1, n],
+    }
 }
 
 pub fn flag_of(tag: u32) -> bool
