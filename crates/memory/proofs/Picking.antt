@@ -64,9 +64,6 @@ module _ {A B : Type 0} {t : Layout A} {p : A → Bool} {f : A → B} {d : B} {m
     pub pick_end : n ≤ i → (out ≡ fill d t.capacity (map f (keep p (table t m)))) × (j ≡ length (map f (keep p (table t m))))
     pick_end h = fill_end d s.gathering.collecting s.rest h
 
-    pub pick_below : j ≤ i
-    pick_below = gather_below s.gathering
-
 -- HOW MANY PASS.
 pub record Tallying {A : Type 0} (t : Layout A) (p : A → Bool) (m : List ℕ) (n i j : ℕ) : Type 0 where
   pub counts : n ≡ min (count t m) t.capacity

@@ -2,21 +2,18 @@
 use mathlib.Core.Path.{◌≡◌, refl, sym, ap, ◌∙◌}
 use mathlib.Core.List.{List, [], ◌++◌, map}
 use Prim.Native.Nat.{ℕ, suc, ◌+◌, ◌*◌, ◌-◌, ◌≤◌, ◌<◌, min}
-use native.Mathlib.Nat.{mul-le-mul_right, suc-mul, add-zero}
+use native.Mathlib.Nat.{mul-le-mul_right, suc-mul}
 use native.Mathlib.Numerals.{add-one}
 use native.Mathlib.Omega.{arith}
-use lib.ListN.{length, get_or, take, drop, set, length-take, length-drop, length-map, get_or-map, get_or-eq_default}
+use lib.ListN.{length, get_or, take, drop, set, length-take, length-drop, length-map, get_or-map}
 use lib.Seq.{length-take-le, take-append-le, drop-append-le, drop_at, take-take, drop-drop, get_or-drop, get_or-take, drop-set-lt, get_or-set_same}
 use Rattle.sorted.specs.Table.{opened}
-use Rattle.memory.specs.Rows.{Layout, chunks, rows, count, table, place, end, over, shifted, Read}
+use Rattle.memory.specs.Rows.{Layout, chunks, rows, count, table, place, end, over, shifted}
 use Rattle.memory.proofs.Chunks.{drop_take, map_set, map_take, map_opened, length_chunks, take_chunks, chunk_at, chunks-set, chunks_open}
 
 -- one number of a row, as the code reads it
 pub cell : (w p k : ℕ) (m : List ℕ) → k < w → get_or (take w (drop p m)) k 0 ≡ get_or m (p + k) 0
 cell w p k m h = get_or-take w (drop p m) k 0 h ∙ get_or-drop p m k 0
-
-pub cell_first : (w p : ℕ) (m : List ℕ) → 0 < w → get_or (take w (drop p m)) 0 0 ≡ get_or m p 0
-cell_first w p m h = cell w p 0 m h ∙ ap (λ (k : ℕ). get_or m k 0) (add-zero p)
 
 module _ {A : Type 0} (t : Layout A) where
   pub rows_length : (m : List ℕ) → length (rows t m) ≡ t.capacity
@@ -26,10 +23,6 @@ module _ {A : Type 0} (t : Layout A) where
   row_at m i h =
       get_or-map t.decode (chunks t.width t.capacity (drop (t.base + 1) m)) i []
       ∙ ap t.decode (chunk_at t.width i t.capacity (drop (t.base + 1) m) [] h ∙ ap (take t.width) (drop-drop (i * t.width) (t.base + 1) m))
-
-  -- behind the last row there is what no numbers say
-  pub read-beyond : (m : List ℕ) (i : ℕ) → t.capacity ≤ i → Read t m i (t.decode [])
-  read-beyond m i h = record { is = sym (get_or-eq_default (rows t m) (t.decode []) (omega (arith, rows_length m))) }
 
   -- a count beyond the capacity reads as the capacity
   pub counted : (m : List ℕ) → length (table t m) ≡ min (count t m) t.capacity
