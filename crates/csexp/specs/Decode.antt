@@ -4,7 +4,7 @@
 --     word · means · numeral · atom_of                  atoms
 --     empty_list · optional_of · labelled_of              (), () or a number, (3:dns2:32)
 use Rattle.std.specs.Prelude.{Bool, true, false, cond, List, [], ◌∷◌, ℕ, zero, suc, eqb, leb}
-use Rattle.std.proofs.Math.Option.{Option, none, some}
+use Rattle.std.specs.Prelude.{Option, None as none, Some as some}
 use Rattle.csexp.specs.Term.{Term, atom, list, Terms, nil, cons}
 use Rattle.csexp.specs.Read.{Got, no, got, number}
 

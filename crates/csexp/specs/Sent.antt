@@ -1,8 +1,11 @@
 -- What a writer of a whole text leaves in the buffer that it is given, and what it answers. 01: "the event is written from the given place
 -- onward and bytes before and after it stay", and where it has no room the buffer is as it was.
 use Rattle.std.specs.Prelude.{◌≡◌, cond, List, ◌++◌, ℕ, ◌+◌, length, take, drop, leb}
-use Rattle.csexp.specs.declared.write.Written.{Written}
-use Rattle.csexp.specs.declared.write.Written.TheVariants.{Bytes, NoRoom}
+use Rattle.std.specs.Prelude.{Option, Some as Bytes, None as NoRoom}
+
+-- how many bytes a writer of a whole text wrote; where they have no room between the place that it was given and the end, it wrote none
+abbrev pub Written : Type 0
+Written = Option ℕ
 
 -- the bytes bs have room in s from `place` on: where the place lies past the end they have none, since every text has at least one byte
 abbrev pub answer : List ℕ → List ℕ → ℕ → Written

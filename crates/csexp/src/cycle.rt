@@ -8,6 +8,7 @@ use crate::leaf::{atom, mark};
 
 // A term of at most `levels` lists inside one another: the position behind it.
 #[cycle(more_terms_one_term)]
+#[tactic(auto, using(crate::proofs::Shallow::one_term))]
 pub fn one_term(s: &[u8], at: usize, levels: usize) -> Option<usize>
     ensures { Passes (shallow levels) s.now at result }
 {
@@ -23,6 +24,7 @@ pub fn one_term(s: &[u8], at: usize, levels: usize) -> Option<usize>
 
 // The terms up to a ')', each of at most `levels` lists inside one another: the position behind that.
 #[cycle(more_terms_one_term)]
+#[tactic(auto, using(crate::proofs::Shallow::more_terms))]
 pub fn more_terms(s: &[u8], at: usize, levels: usize) -> Option<usize>
     ensures { Leaves (shallows levels) s.now at result }
 {

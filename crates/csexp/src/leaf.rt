@@ -6,13 +6,19 @@ ghost use Rattle.csexp.specs.Answers.{Reads, Passes, Marks, Counts, Strings, dig
 use crate::At;
 
 // The byte b.
+#[tactic(auto, using(crate::proofs::Leaves::mark_is))]
 pub fn mark(s: &[u8], at: usize, b: u8) -> Option<usize>
     ensures { Marks b s.now at result }
 {
-    if at < s.len() && s[at] == b { Some(at + 1) } else { None }
+    if at < s.len() && s[at] == b {
+        Some(at + 1)
+    } else {
+        None
+    }
 }
 
 // The value of the digit at a position.
+#[tactic(auto, unfolding(crate::specs::Answers::digit_at))]
 fn digit(s: &[u8], i: usize) -> Option<usize>
     ensures { result ≡ digit_at s.now i }
 {
@@ -23,6 +29,7 @@ fn digit(s: &[u8], i: usize) -> Option<usize>
 }
 
 // A decimal number of at most `cap`: 0, or digits that begin with no 0.
+#[tactic(auto, using(crate::proofs::Digits::digits))]
 pub fn decimal(s: &[u8], at: usize, cap: usize) -> Option<At<usize>>
     ensures { Counts cap s.now at result }
 {
@@ -47,27 +54,28 @@ pub fn decimal(s: &[u8], at: usize, cap: usize) -> Option<At<usize>>
 
 // An atom: its length, ':' and as many bytes, which are handed back as a part of the caller's slice (01: "An atom that has been read
 // is shown as the very bytes of the input"). A length that is larger than the whole text is no length, so none is too large to count.
+#[tactic(auto, using(crate::proofs::Atoms::strings))]
 pub fn atom(s: &[u8], at: usize) -> Option<At<&[u8]>>
     ensures { Strings s.now at result }
 {
     let length = decimal(s, at, s.len())?;
     let start = mark(s, length.next, b':')?;
-    let value = s.get(start..)?.get(..length.value)?;
-    Some(At {
-        value,
-        next: start + length.value,
-    })
+    let next = start.checked_add(length.value)?;
+    let value = s.get(start..next)?;
+    Some(At { value, next })
 }
 
 // The atom whose bytes are w.
+#[tactic(auto, using(crate::proofs::Atoms::words), unfolding(crate::specs::Decode::word))]
 pub fn word(s: &[u8], at: usize, w: &[u8]) -> Option<usize>
     ensures { Passes (word w.now) s.now at result }
 {
     let a = atom(s, at)?;
-    if a.value == w { Some(a.next) } else { None }
+    if w == a.value { Some(a.next) } else { None }
 }
 
 // The atom whose bytes are a decimal number from lo to hi.
+#[tactic(auto, using(crate::proofs::Atoms::numerals), unfolding(crate::specs::Decode::numeral))]
 pub fn number(s: &[u8], at: usize, lo: u32, hi: u32) -> Option<At<u32>>
     ensures { Reads (numeral lo hi) s.now at result }
 {

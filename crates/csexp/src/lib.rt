@@ -11,7 +11,7 @@ pub mod write; // writers into a lent slice
 pub use cycle::{more_terms, one_term};
 pub use leaf::{atom, decimal, mark, number, word};
 pub use shape::{empty_list, labelled, optional};
-pub use text::{Ending, ITEM_BYTES, ITEM_LEVELS, ends_at, whole};
+pub use text::{ITEM_BYTES, ITEM_LEVELS, ends_at, whole};
 
 // A value that was found, and the position behind it.
 #[derive(Clone, Copy)]

@@ -1,5 +1,5 @@
 // Small lists that the shapes of 01 are full of.
-#![tactic(auto, using(crate::proofs::Steps::readers))]
+#![tactic(auto, using(crate::proofs::Steps::readers), unfolding(crate::specs::Decode::optional_of, crate::specs::Decode::labelled_of))]
 
 ghost use Rattle.csexp.specs.Decode.{empty_list, optional_of, labelled_of};
 ghost use Rattle.csexp.specs.Answers.{Reads, Passes};
@@ -33,5 +33,8 @@ pub fn labelled(s: &[u8], at: usize, label: &[u8], lo: u32, hi: u32) -> Option<A
     let b = word(s, a, label)?;
     let n = number(s, b, lo, hi)?;
     let next = mark(s, n.next, b')')?;
-    Some(At { value: n.value, next })
+    Some(At {
+        value: n.value,
+        next,
+    })
 }

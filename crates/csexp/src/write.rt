@@ -9,14 +9,6 @@ ghost use Rattle.csexp.specs.Puts.{Puts, Writes, Opens};
 // The largest position: a count stops there.
 const MOST: usize = 18446744073709551615;
 
-// What a writer of a whole text answers: how many bytes it wrote, or that they have no room between the place it was given and the
-// end, and then it wrote none (specs/Sent).
-#[derive(Clone, Copy)]
-pub enum Written {
-    Bytes(usize),
-    NoRoom,
-}
-
 // One byte.
 fn byte(out: &mut [u8], at: usize, b: u8) -> usize
     ensures { Puts (b ∷ []) out.old at out.new result }

@@ -7,7 +7,7 @@ ghost use Rattle.layouts.specs.Rows.{document_of};
 use memory::Memory;
 use types::commands::{Script, ScriptState};
 use types::rows::Document;
-use types::{DocumentNumber, Policy, Referrer, WindowNumber};
+use types::{DocumentNumber, Policy, WindowNumber};
 
 // How many rows there is room for.
 pub const DOCUMENTS: usize = 64;
@@ -30,7 +30,7 @@ pub fn blank() -> Document
         number: DocumentNumber(0),
         location: location,
         policy: Policy::Unset,
-        referrer: Referrer::Unknown,
+        referrer: None,
         script: Script(0),
         state: ScriptState(0),
         active: false,

@@ -3,7 +3,7 @@ use mathlib.Core.Path.{◌≡◌, refl}
 use mathlib.Core.Logic.{inl}
 use mathlib.Core.Bool.{true}
 use mathlib.Core.List.{List}
-use mathlib.Core.Option.{some}
+use Rattle.std.specs.Prelude.{Some as some}
 use Prim.Native.Nat.{◌≤◌}
 use lib.ListN.{length}
 use Rattle.sorted.proofs.Never.{never}

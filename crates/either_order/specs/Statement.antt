@@ -1,6 +1,6 @@
 -- Demand 3: two local steps under different top-level windows, or under none, may be taken in either order (01 "Local steps, for demand 3").
 use Rattle.std.specs.Prelude.{◌≡◌, true, List, ◌++◌, ℕ, ◌+◌, ◌≤◌, length}
-use Rattle.std.proofs.Math.Option.{Option, some}
+use Rattle.std.specs.Prelude.{Option, Some as some}
 use Rattle.sorted.specs.Table.{In}
 use Rattle.tables.specs.Tables.{Table, cap, Tables}
 use Rattle.tables.specs.Labels.{Label}

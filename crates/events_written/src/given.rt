@@ -1,8 +1,8 @@
 // Requests and addresses to send.
 use types::cookies::{CookieName, CookieValue, Jar, Pair};
 use types::{
-    Address, Data, DnsNumber, Host, KeyNumber, Method, OriginHeader, Parameters, Path, Referrer,
-    Request, RequestNumber, Sent,
+    Address, Data, DnsNumber, Host, KeyNumber, Method, OriginHeader, Parameters, Path, Request,
+    RequestNumber, Sent,
 };
 
 pub fn question() -> Sent {
@@ -45,7 +45,7 @@ pub fn bare(method: Method) -> Request {
         parameters: Parameters(0),
         cookies: cookies(pair(false, 0, 0), 0),
         origin: OriginHeader::Unsent,
-        referrer: Referrer::Unknown,
+        referrer: None,
         body: Data(0),
     }
 }

@@ -2,8 +2,8 @@
 use crate::{given, say};
 use std::io;
 use types::{
-    Address, Data, Fragment, Host, KeyNumber, Method, Origin, OriginHeader, Parameters, Path,
-    Protocol, Referrer, Request, RequestNumber, Sent, Url,
+    Address, Data, Host, KeyNumber, Method, Origin, OriginHeader, Parameters, Path, Protocol,
+    Request, RequestNumber, Sent, Url,
 };
 
 // The two lines of 01's example run.
@@ -36,12 +36,12 @@ fn largest(count: usize) -> Request {
             host: Host(65535),
             protocol: Protocol::Plain,
         }),
-        referrer: Referrer::Known(Url {
+        referrer: Some(Url {
             protocol: Protocol::Secure,
             host: Host(65535),
             path: Path(65535),
             parameters: Parameters(4294967295),
-            fragment: Fragment::Named(4294967295),
+            fragment: Some(4294967295),
         }),
         body: Data(4294967295),
     }

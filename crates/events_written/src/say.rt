@@ -1,5 +1,4 @@
 // A line of output: the name of a case, and what was written.
-use csexp::write::Written;
 use std::io;
 use types::{Request, Sent};
 use writing::{length_of, write_event};
@@ -21,8 +20,8 @@ pub fn event(rt: &impl Print, name: &[u8], sent: Sent, request: Request) -> io::
     let mut buffer = [0u8; 4096];
     let answer = write_event(&mut buffer, 0, sent, request);
     match answer {
-        Written::Bytes(n) => line(rt, name, start(&buffer, n)),
-        Written::NoRoom => line(rt, name, b"no room"),
+        Some(n) => line(rt, name, start(&buffer, n)),
+        None => line(rt, name, b"no room"),
     }
 }
 
@@ -46,8 +45,8 @@ pub fn buffer(
     rt.write_all(name)?;
     rt.write_all(b": ")?;
     match answer {
-        Written::Bytes(n) => print!(rt; "{n}")?,
-        Written::NoRoom => rt.write_all(b"no room")?,
+        Some(n) => print!(rt; "{n}")?,
+        None => rt.write_all(b"no room")?,
     }
     rt.write_all(b" [")?;
     rt.write_all(out)?;

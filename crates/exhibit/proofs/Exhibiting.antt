@@ -6,7 +6,7 @@
 use mathlib.Core.Path.{◌≡◌, refl, sym, ap, ap₂, ◌∙◌}
 use mathlib.Core.Bool.{Bool, true, false, cond}
 use mathlib.Core.List.{List}
-use mathlib.Core.Option.{Option, none, some}
+use Rattle.std.specs.Prelude.{Option, None as none, Some as some}
 use Prim.Native.Nat.{ℕ, ◌+◌}
 use lib.Dec.{leb}
 use lib.ListN.{length}
@@ -14,7 +14,7 @@ use Rattle.csexp.specs.Text.{text}
 use Rattle.csexp.specs.Term.{Term, list, Terms, nil, cons, write}
 use Rattle.csexp.specs.Encode.{number_term, labelled}
 use Rattle.csexp.specs.Sent.{Sent}
-use Rattle.csexp.specs.declared.write.Written.TheVariants.{Bytes, NoRoom as Crowded}
+use Rattle.std.specs.Prelude.{Some as Bytes, None as Crowded}
 use Rattle.sorted.proofs.Never.{never}
 use Rattle.tables.specs.Tables.{windows, documents, local_storage, session_storage, Tables}
 use Rattle.tables.specs.Rows.{origin_of}

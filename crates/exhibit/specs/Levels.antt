@@ -1,6 +1,6 @@
 -- The tree as the code has it: the windows that hang at a place, and what stands in a window.
 use Rattle.std.specs.Prelude.{Bool, ℕ}
-use Rattle.std.proofs.Math.Option.{Option, none, some}
+use Rattle.std.specs.Prelude.{Option, None as none, Some as some}
 use Rattle.csexp.specs.Term.{Terms, nil, cons}
 use Rattle.sorted.specs.Table.{keep}
 use Rattle.tables.specs.Tables.{windows, Tables}

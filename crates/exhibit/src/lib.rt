@@ -11,14 +11,14 @@ ghost use Rattle.browser.specs.View.{view};
 ghost use Rattle.wim.specs.Shown.{shown_to};
 ghost use Rattle.exhibit.specs.Exhibits.{Shows};
 
-use csexp::write::{Written, close_list, labelled, number, open_list};
+use csexp::write::{close_list, labelled, number, open_list};
 use exhibit_parts::{write_cookies, write_inputs, write_local, write_session};
 use history::Display;
 use memory::Memory;
 use tree::write_windows;
 use types::WindowNumber;
 use types::refusals::{Refusal, Verdict};
-use types::rows::{Document, Parent};
+use types::rows::Document;
 use walks::{STEPS, origin_of};
 
 // Whether it is shown or why not, and how many bytes of the buffer were written.
@@ -36,7 +36,7 @@ fn write_exhibit(m: &Memory, out: &mut [u8], at: usize, top: WindowNumber, d: Do
     let document = d.number;
     let state = d.state;
     let a = open_list(out, at);
-    let b = write_windows(m, out, a, origin, Parent::Top, STEPS);
+    let b = write_windows(m, out, a, origin, None, STEPS);
     let c = labelled(out, b, b"document", document.0);
     let e = number(out, c, state.0);
     let f = write_inputs(m, out, e, document);
@@ -47,7 +47,13 @@ fn write_exhibit(m: &Memory, out: &mut [u8], at: usize, top: WindowNumber, d: Do
 }
 
 // The text from `place` on, where it has room between there and the end: a run over a slice of one byte counts it first.
-fn put_exhibit(m: &Memory, out: &mut [u8], place: usize, top: WindowNumber, d: Document) -> Written
+fn put_exhibit(
+    m: &Memory,
+    out: &mut [u8],
+    place: usize,
+    top: WindowNumber,
+    d: Document,
+) -> Option<usize>
     ensures { Sent (write (shown_to (view m.now) top d)) out.old place out.new result }
 {
     let mut nothing = [0u8; 1];
@@ -56,10 +62,10 @@ fn put_exhibit(m: &Memory, out: &mut [u8], place: usize, top: WindowNumber, d: D
         if n <= out.len() - place {
             let end = place + n;
             write_exhibit(m, &mut out[place..end], 0, top, d);
-            return Written::Bytes(n);
+            return Some(n);
         }
     }
-    Written::NoRoom
+    None
 }
 
 // Refusals as for a step of that script (01 "Refusal numbers"): 8, then 3, then 7; at a refusal the buffer is as it was.
@@ -81,11 +87,11 @@ pub fn show(m: &Memory, w: WindowNumber, out: &mut [u8], place: usize) -> Showin
         Display::Shows(top, d) => {
             let written = put_exhibit(m, out, place, top, d);
             match written {
-                Written::Bytes(count) => Showing {
+                Some(count) => Showing {
                     verdict: Verdict::Accepted,
                     count,
                 },
-                Written::NoRoom => Showing {
+                None => Showing {
                     verdict: Verdict::Refused(Refusal::NoRoom),
                     count: 0,
                 },

@@ -24,13 +24,13 @@ fn hangs_under(place: Parent, parent: Parent) -> bool
     ensures { result ≡ hangs_under place parent }
 {
     match place {
-        Parent::Top => match parent {
-            Parent::Top => true,
-            Parent::Under(_) => false,
+        None => match parent {
+            None => true,
+            Some(_) => false,
         },
-        Parent::Under(n) => match parent {
-            Parent::Top => false,
-            Parent::Under(k) => k.0 == n.0,
+        Some(n) => match parent {
+            None => false,
+            Some(k) => k.0 == n.0,
         },
     }
 }
@@ -138,7 +138,7 @@ fn write_whole(
     let g = number(out, f, script.0);
     let h = number(out, g, state.0);
     let i = write_inputs(m, out, h, document);
-    let j = write_windows(m, out, i, origin, Parent::Under(document), levels);
+    let j = write_windows(m, out, i, origin, Some(document), levels);
     let k = word(out, j, b"T");
     close_list(out, k)
 }
@@ -158,6 +158,6 @@ fn write_limited(
     let document = d.number;
     let a = open_list(out, at);
     let b = labelled(out, a, b"document", document.0);
-    let c = write_windows(m, out, b, origin, Parent::Under(document), levels);
+    let c = write_windows(m, out, b, origin, Some(document), levels);
     close_list(out, c)
 }

@@ -1,6 +1,6 @@
 -- What is shown of the rows of one table: the tests, the lookups and the terms of wim's Shown under names of their own.
 use Rattle.std.specs.Prelude.{Bool, not, ◌&&◌, List}
-use Rattle.std.proofs.Math.Option.{Option}
+use Rattle.std.specs.Prelude.{Option}
 use Rattle.csexp.specs.Term.{Term}
 use Rattle.sorted.specs.Table.{at}
 use Rattle.tables.specs.Tables.{local_storage, session_storage, is_secure, key_of, cmp}

@@ -15,8 +15,8 @@ pub fn write_opener(out: &mut [u8], at: usize, opener: Opener) -> usize
     ensures { Writes (opener_term opener) out.old at out.new result }
 {
     match opener {
-        Opener::Nobody => empty_list(out, at),
-        Opener::OpenedBy(w) => labelled(out, at, b"window", w.0),
+        None => empty_list(out, at),
+        Some(w) => labelled(out, at, b"window", w.0),
     }
 }
 
@@ -25,8 +25,8 @@ pub fn write_referrer(out: &mut [u8], at: usize, referrer: Referrer) -> usize
     ensures { Writes (referrer_term referrer) out.old at out.new result }
 {
     match referrer {
-        Referrer::Unknown => empty_list(out, at),
-        Referrer::Known(url) => write_url(out, at, url),
+        None => empty_list(out, at),
+        Some(url) => write_url(out, at, url),
     }
 }
 
@@ -35,8 +35,8 @@ fn write_matching(out: &mut [u8], at: usize, matching: Matching) -> usize
     ensures { Writes (matching_term matching) out.old at out.new result }
 {
     match matching {
-        Matching::Unmatched => empty_list(out, at),
-        Matching::By(n) => number(out, at, n),
+        None => empty_list(out, at),
+        Some(n) => number(out, at, n),
     }
 }
 

@@ -1,6 +1,6 @@
 -- NAVBACK and NAVFORWARD as one: where a history leads in a direction, and what the algorithms do once that is known.
 use Rattle.std.specs.Prelude.{true, false, List, map, ℕ}
-use Rattle.std.proofs.Math.Option.{Option, none, some}
+use Rattle.std.specs.Prelude.{Option, None as none, Some as some}
 use Rattle.types.specs.declared.WindowNumber.{WindowNumber}
 use Rattle.types.specs.declared.Cancelled.TheVariants.{Bare}
 use Rattle.types.specs.declared.refusals.Refusal.TheVariants.{Stopped}

@@ -1,5 +1,5 @@
 -- What the two questions that stand before reload, back, forward and every script step are answered with, as one answer.
-use Rattle.std.proofs.Math.Option.{Option, none, some}
+use Rattle.std.specs.Prelude.{Option, None as none, Some as some}
 use Rattle.types.specs.declared.WindowNumber.{WindowNumber}
 use Rattle.types.specs.declared.refusals.Missing.TheVariants.{NoWindow, NoDocument}
 use Rattle.types.specs.declared.rows.Document.{Document}

@@ -5,9 +5,9 @@ ghost use Rattle.layouts.specs.Tables.{inputs_in};
 ghost use Rattle.layouts.specs.Rows.{input_of};
 
 use memory::Memory;
+use types::DocumentNumber;
 use types::answers::Body;
 use types::rows::{Input, News};
-use types::{DocumentNumber, Matching};
 
 // How many rows there is room for.
 pub const INPUTS: usize = 64;
@@ -26,7 +26,7 @@ pub fn blank() -> Input
     Input {
         document: DocumentNumber(0),
         arrival: 0,
-        news: News::Answered(Matching::Unmatched, Body::Number(0)),
+        news: News::Answered(None, Body::Number(0)),
     }
 }
 

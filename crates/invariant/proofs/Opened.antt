@@ -1,7 +1,7 @@
 -- An accepted step of a browser is one of its tables; the browser was open. So the tables of a browser that accepted steps have made are made by them.
 use mathlib.Core.Path.{◌≡◌, refl, sym, ◌∙◌, ap}
 use mathlib.Core.Bool.{Bool, true, false, cond}
-use mathlib.Core.Option.{Option}
+use Rattle.std.specs.Prelude.{Option}
 use Rattle.sorted.proofs.Never.{never}
 use Rattle.shapes.specs.Events.{Message}
 use Rattle.wim.specs.Nouns.{Item, Closed}

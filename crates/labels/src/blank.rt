@@ -4,8 +4,7 @@ ghost use Rattle.tables.specs.Rows.{jar, blank_url, blank_request};
 
 use types::cookies::{CookieName, CookieValue, Jar, Pair};
 use types::{
-    Data, Fragment, Host, Method, OriginHeader, Parameters, Path, Protocol, Referrer, Request,
-    RequestNumber, Url,
+    Data, Host, Method, OriginHeader, Parameters, Path, Protocol, Request, RequestNumber, Url,
 };
 
 // No cookies: also what the collecting of cookies begins with.
@@ -33,7 +32,7 @@ pub fn no_url() -> Url
         host: Host(0),
         path: Path(0),
         parameters: Parameters(0),
-        fragment: Fragment::Absent,
+        fragment: None,
     }
 }
 
@@ -49,7 +48,7 @@ pub fn no_request() -> Request
         parameters: Parameters(0),
         cookies: cookies,
         origin: OriginHeader::Unsent,
-        referrer: Referrer::Unknown,
+        referrer: None,
         body: Data(0),
     }
 }

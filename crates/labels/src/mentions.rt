@@ -44,8 +44,8 @@ pub fn in_parent(l: Label, p: Parent) -> bool
     ensures { result ≡ among (label_of l) (parent_label p) }
 {
     match p {
-        Parent::Top => false,
-        Parent::Under(d) => same(l, Label::OfDocument(d)),
+        None => false,
+        Some(d) => same(l, Label::OfDocument(d)),
     }
 }
 
@@ -53,8 +53,8 @@ pub fn in_opener(l: Label, p: Opener) -> bool
     ensures { result ≡ among (label_of l) (opener_label p) }
 {
     match p {
-        Opener::Nobody => false,
-        Opener::OpenedBy(w) => same(l, Label::OfWindow(w)),
+        None => false,
+        Some(w) => same(l, Label::OfWindow(w)),
     }
 }
 
@@ -62,8 +62,8 @@ pub fn in_seal(l: Label, p: Seal) -> bool
     ensures { result ≡ among (label_of l) (seal_label p) }
 {
     match p {
-        Seal::Keyless => false,
-        Seal::Keyed(k) => same(l, Label::OfKey(k)),
+        None => false,
+        Some(k) => same(l, Label::OfKey(k)),
     }
 }
 

@@ -8,13 +8,13 @@ pub fn same_matching(m: Matching, n: Matching) -> bool
     ensures { result ≡ same_matching m n }
 {
     match m {
-        Matching::Unmatched => match n {
-            Matching::Unmatched => true,
-            Matching::By(_) => false,
+        None => match n {
+            None => true,
+            Some(_) => false,
         },
-        Matching::By(a) => match n {
-            Matching::Unmatched => false,
-            Matching::By(b) => a == b,
+        Some(a) => match n {
+            None => false,
+            Some(b) => a == b,
         },
     }
 }
@@ -41,8 +41,8 @@ pub fn has_key(k: KeyNumber, s: Seal) -> bool
     ensures { result ≡ has_key k s }
 {
     match s {
-        Seal::Keyless => false,
-        Seal::Keyed(l) => k.0 == l.0,
+        None => false,
+        Some(l) => k.0 == l.0,
     }
 }
 
@@ -50,7 +50,7 @@ pub fn has_no_key(s: Seal) -> bool
     ensures { result ≡ has_no_key s }
 {
     match s {
-        Seal::Keyless => true,
-        Seal::Keyed(_) => false,
+        None => true,
+        Some(_) => false,
     }
 }

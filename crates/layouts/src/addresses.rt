@@ -60,8 +60,8 @@ fn fragment_of(tag: u32, n: u32) -> Fragment
     ensures { result ≡ fragment_of tag n }
 {
     match tag {
-        0 => Fragment::Absent,
-        _ => Fragment::Named(n),
+        0 => None,
+        _ => Some(n),
     }
 }
 
@@ -69,8 +69,8 @@ fn fragment_numbers(x: Fragment) -> [u32; 2]
     ensures { fragment_of (get_or result 0 0) (get_or result 1 0) ≡ x }
 {
     match x {
-        Fragment::Absent => [0, 0],
-        Fragment::Named(n) => [1, n],
+        None => [0, 0],
+        Some(n) => [1, n],
     }
 }
 
@@ -108,19 +108,19 @@ pub fn referrer_at(m: &Memory, p: usize) -> Referrer
         let tag = at(m, p, 0);
         let u = url_at(m, p + 1);
         if tag == 0 {
-            return Referrer::Unknown;
+            return None;
         }
-        return Referrer::Known(u);
+        return Some(u);
     }
-    Referrer::Unknown
+    None
 }
 
 pub fn referrer_numbers(x: Referrer) -> [u32; 7]
     ensures { referrer_of result ≡ x }
 {
     match x {
-        Referrer::Unknown => [0, 0, 0, 0, 0, 0, 0],
-        Referrer::Known(u) => {
+        None => [0, 0, 0, 0, 0, 0, 0],
+        Some(u) => {
             let c = url_numbers(u);
             [1, c[0], c[1], c[2], c[3], c[4], c[5]]
         }

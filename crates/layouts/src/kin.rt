@@ -13,8 +13,8 @@ pub fn parent_at(m: &Memory, p: usize) -> Parent
     let tag = at(m, p, 0);
     let n = at(m, p, 1);
     match tag {
-        0 => Parent::Top,
-        _ => Parent::Under(DocumentNumber(n)),
+        0 => None,
+        _ => Some(DocumentNumber(n)),
     }
 }
 
@@ -22,8 +22,8 @@ pub fn parent_numbers(x: Parent) -> [u32; 2]
     ensures { parent_of result ≡ x }
 {
     match x {
-        Parent::Top => [0, 0],
-        Parent::Under(d) => [1, d.0],
+        None => [0, 0],
+        Some(d) => [1, d.0],
     }
 }
 
@@ -33,8 +33,8 @@ pub fn opener_at(m: &Memory, p: usize) -> Opener
     let tag = at(m, p, 0);
     let n = at(m, p, 1);
     match tag {
-        0 => Opener::Nobody,
-        _ => Opener::OpenedBy(WindowNumber(n)),
+        0 => None,
+        _ => Some(WindowNumber(n)),
     }
 }
 
@@ -42,8 +42,8 @@ pub fn opener_numbers(x: Opener) -> [u32; 2]
     ensures { opener_of result ≡ x }
 {
     match x {
-        Opener::Nobody => [0, 0],
-        Opener::OpenedBy(w) => [1, w.0],
+        None => [0, 0],
+        Some(w) => [1, w.0],
     }
 }
 
@@ -53,8 +53,8 @@ pub fn seal_at(m: &Memory, p: usize) -> Seal
     let tag = at(m, p, 0);
     let n = at(m, p, 1);
     match tag {
-        0 => Seal::Keyless,
-        _ => Seal::Keyed(KeyNumber(n)),
+        0 => None,
+        _ => Some(KeyNumber(n)),
     }
 }
 
@@ -62,7 +62,7 @@ pub fn seal_numbers(x: Seal) -> [u32; 2]
     ensures { seal_of result ≡ x }
 {
     match x {
-        Seal::Keyless => [0, 0],
-        Seal::Keyed(k) => [1, k.0],
+        None => [0, 0],
+        Some(k) => [1, k.0],
     }
 }

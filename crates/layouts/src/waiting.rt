@@ -14,8 +14,8 @@ fn matching_of(tag: u32, n: u32) -> Matching
     ensures { result ≡ matching_of tag n }
 {
     match tag {
-        0 => Matching::Unmatched,
-        _ => Matching::By(n),
+        0 => None,
+        _ => Some(n),
     }
 }
 
@@ -23,8 +23,8 @@ fn matching_numbers(x: Matching) -> [u32; 2]
     ensures { matching_of (get_or result 0 0) (get_or result 1 0) ≡ x }
 {
     match x {
-        Matching::Unmatched => [0, 0],
-        Matching::By(n) => [1, n],
+        None => [0, 0],
+        Some(n) => [1, n],
     }
 }
 
@@ -89,7 +89,7 @@ pub fn news_at(m: &Memory, p: usize) -> News
         let n = at(m, p, 4);
         return News::Posted(WindowNumber(w), o, n);
     }
-    News::Answered(Matching::Unmatched, Body::Number(0))
+    News::Answered(None, Body::Number(0))
 }
 
 pub fn news_numbers(x: News) -> [u32; 6]

@@ -4,7 +4,7 @@
 use mathlib.Core.Path.{◌≡◌, refl, sym, ◌∙◌, ap, subst}
 use mathlib.Core.Bool.{Bool, true, false, cond}
 use mathlib.Core.List.{List, [], ◌∷◌}
-use mathlib.Core.Option.{Option, none, some}
+use Rattle.std.specs.Prelude.{Option, None as none, Some as some}
 use Prim.Native.Nat.{ℕ, zero, suc, ◌+◌, ◌*◌, ◌≤◌, ◌<◌}
 use native.Mathlib.Omega.{arith}
 use lib.ListN.{length, get_or}
@@ -18,8 +18,8 @@ use Rattle.wim.specs.Walks.{active_document, is_reached}
 use Rattle.wim.specs.Navigable.{may_navigate, mask_of, when_displayed, navigable_mask}
 use Rattle.wim.proofs.Mask.{low_bit, high_bits}
 use Rattle.wim.proofs.NavigableMask.{navigable_first, unreached_none}
-use Rattle.navigable.specs.declared.First.{First}
-use Rattle.navigable.specs.declared.First.TheVariants.{Row, NoRow}
+use Rattle.navigable.specs.First.{First}
+use Rattle.std.specs.Prelude.{Some as Row, None as NoRow}
 use Rattle.navigable.specs.First.{first_from, first_navigable}
 
 module _ (p : WindowNumber → Bool) where

@@ -3,8 +3,11 @@ use Rattle.std.specs.Prelude.{Bool, cond, List, [], ◌∷◌, ℕ, suc}
 use Rattle.wim.specs.Nouns.{WindowNumber, Window, Document}
 use Rattle.wim.specs.Walks.{active_document, is_reached}
 use Rattle.wim.specs.Navigable.{may_navigate, when_displayed}
-use Rattle.navigable.specs.declared.First.{First}
-use Rattle.navigable.specs.declared.First.TheVariants.{Row, NoRow}
+use Rattle.std.specs.Prelude.{Option, Some as Row, None as NoRow}
+
+-- a row of the windows, counted from 0, if there is one
+abbrev pub First : Type 0
+First = Option ℕ
 
 -- the first row that passes, counted from i on
 abbrev pub first_from : (WindowNumber → Bool) → ℕ → List Window → First

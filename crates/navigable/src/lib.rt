@@ -17,13 +17,6 @@ use types::{Origin, WindowNumber};
 use walks::STEPS;
 use walks::told::{Above, Top};
 
-// A row of the windows, counted from 0, if there is one.
-#[derive(Clone, Copy)]
-pub enum First {
-    Row(usize),
-    NoRow,
-}
-
 fn has_origin(m: &Memory, o: Origin, w: WindowNumber) -> bool
     ensures { result ≡ has_origin o (active_document (table documents_in m.now) w) }
 {
@@ -89,7 +82,7 @@ fn opener_of(m: &Memory, v: WindowNumber) -> Opener
         let p = row.opener;
         return p;
     }
-    Opener::Nobody
+    None
 }
 
 // All four rules: the fourth leads to the opener, n windows in all.
@@ -105,8 +98,8 @@ fn follows_within(n: usize, m: &Memory, o: Origin, w: WindowNumber, v: WindowNum
         }
         let p = opener_of(m, v);
         return match p {
-            Opener::Nobody => false,
-            Opener::OpenedBy(q) => follows_within(n - 1, m, o, w, q),
+            None => false,
+            Some(q) => follows_within(n - 1, m, o, w, q),
         };
     }
     false
@@ -174,14 +167,14 @@ pub fn navigable_size(m: &Memory, w: WindowNumber) -> u32
     u32::count_ones(bits)
 }
 
-// The first row of the set: as many zeros stand at the end of the number as rows before it.
-pub fn first_navigable(m: &Memory, w: WindowNumber) -> First
+// The first row of the set, counted from 0, if there is one: as many zeros stand at the end of the number as rows before it.
+pub fn first_navigable(m: &Memory, w: WindowNumber) -> Option<usize>
     ensures { result ≡ first_navigable (table windows_in m.now) (table documents_in m.now) w }
 {
     let bits = navigable_set(m, w);
     if bits == 0 {
-        return First::NoRow;
+        return None;
     }
     let row = u32::trailing_zeros(bits) as usize;
-    First::Row(row)
+    Some(row)
 }

@@ -10,7 +10,7 @@ ghost use Rattle.pending_dns.specs.Tidied.{tidied};
 use memory::Memory;
 use types::rows::Question;
 use types::{
-    Data, DnsNumber, Host, Method, OriginHeader, Parameters, Path, Reference, Referrer, Request,
+    Data, DnsNumber, Host, Method, OriginHeader, Parameters, Path, Reference, Request,
     RequestNumber, WindowNumber,
 };
 
@@ -49,7 +49,7 @@ pub fn blank() -> Question
             parameters: Parameters(0),
             cookies: cookies,
             origin: OriginHeader::Unsent,
-            referrer: Referrer::Unknown,
+            referrer: None,
             body: Data(0),
         },
         url: url,

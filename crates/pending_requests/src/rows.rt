@@ -10,8 +10,8 @@ ghost use Rattle.pending_requests.specs.Tidied.{tidied};
 use memory::Memory;
 use types::rows::Waiting;
 use types::{
-    Address, Data, Host, Method, OriginHeader, Parameters, Path, Reference, Referrer, Request,
-    RequestNumber, Seal, WindowNumber,
+    Address, Data, Host, Method, OriginHeader, Parameters, Path, Reference, Request, RequestNumber,
+    Seal, WindowNumber,
 };
 
 // How many rows there is room for.
@@ -48,11 +48,11 @@ pub fn blank() -> Waiting
             parameters: Parameters(0),
             cookies: cookies,
             origin: OriginHeader::Unsent,
-            referrer: Referrer::Unknown,
+            referrer: None,
             body: Data(0),
         },
         url: url,
-        seal: Seal::Keyless,
+        seal: None,
         address: Address(0),
     }
 }
@@ -115,7 +115,7 @@ pub fn head_at(m: &Memory, i: usize) -> Head
     Head {
         reference: Reference::Req(WindowNumber(0)),
         request: RequestNumber(0),
-        seal: Seal::Keyless,
+        seal: None,
     }
 }
 

@@ -1,6 +1,6 @@
 -- The step of an item in place, of a browser that is open: what the definitions say; and at a refusal but 6 the memory is the very one that it was.
 use Rattle.std.specs.Prelude.{◌≡◌, Bool, true, false, List, ℕ}
-use Rattle.std.proofs.Math.Option.{none}
+use Rattle.std.specs.Prelude.{None as none}
 use Rattle.types.specs.declared.items.Item.{Item}
 use Rattle.types.specs.declared.refusals.Verdict.{Verdict}
 use Rattle.types.specs.declared.refusals.Verdict.TheVariants.{Accepted, Refused}

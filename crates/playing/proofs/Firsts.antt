@@ -8,8 +8,8 @@ use Prim.Native.Nat.{ℕ, ◌+◌, ◌-◌, ◌≤◌, ◌<◌}
 use native.Mathlib.Omega.{arith}
 use lib.ListN.{length, take, drop, length-append, length-drop, take-append-drop}
 use lib.Seq.{take-append-le, take_at}
-use Rattle.csexp.specs.declared.text.Ending.{Ending}
-use Rattle.csexp.specs.declared.text.Ending.TheVariants.{Whole, Broken}
+use Rattle.csexp.specs.Limits.{Ending}
+use Rattle.std.specs.Prelude.{Some as Whole, None as Broken}
 use Rattle.csexp.specs.Term.{Term, levels, write}
 use Rattle.csexp.specs.Limits.{ending_of}
 use Rattle.csexp.proofs.Meaning.{ending-is-written, written-is-ending}

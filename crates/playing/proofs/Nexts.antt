@@ -10,8 +10,8 @@ use native.Mathlib.Omega.{arith}
 use borrow.Author.Tests.{ltb-true, ltb-false, lt-ltb, le-ltb}
 use lib.Dec.{leb, ltb}
 use lib.ListN.{length}
-use Rattle.csexp.specs.declared.text.Ending.{Ending}
-use Rattle.csexp.specs.declared.text.Ending.TheVariants.{Whole, Broken}
+use Rattle.csexp.specs.Limits.{Ending}
+use Rattle.std.specs.Prelude.{Some as Whole, None as Broken}
 use Rattle.csexp.specs.Limits.{item_bytes, item_levels, ending_of}
 use Rattle.sorted.proofs.Never.{never}
 use Rattle.playing.specs.declared.looking.Halt.{Halt}

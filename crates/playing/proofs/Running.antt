@@ -10,8 +10,8 @@ use borrow.Author.Tests.{leb-true}
 use lib.Dec.{leb}
 use lib.ListN.{length, take, drop, length-drop}
 use lib.Seq.{take-append-le, drop-append-le, drop-drop}
-use Rattle.csexp.specs.declared.text.Ending.{Ending}
-use Rattle.csexp.specs.declared.text.Ending.TheVariants.{Whole, Broken}
+use Rattle.csexp.specs.Limits.{Ending}
+use Rattle.std.specs.Prelude.{Some as Whole, None as Broken}
 use Rattle.csexp.specs.Term.{decimal}
 use Rattle.csexp.specs.Limits.{item_bytes, item_levels, ending_of}
 use Rattle.types.specs.declared.refusals.Refusal.TheVariants.{BadText}

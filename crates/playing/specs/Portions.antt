@@ -1,7 +1,7 @@
 -- A run is played portion by portion. A portion is played as far as its items are whole, and as long as there is room for the longest line.
 use Rattle.std.specs.Prelude.{Bool, cond, List, [], ◌∷◌, ◌++◌, ℕ, zero, suc, ◌+◌, ◌-◌, leb, ltb, length, take, drop}
-use Rattle.csexp.specs.declared.text.Ending.{Ending}
-use Rattle.csexp.specs.declared.text.Ending.TheVariants.{Whole, Broken}
+use Rattle.csexp.specs.Limits.{Ending}
+use Rattle.std.specs.Prelude.{Some as Whole, None as Broken}
 use Rattle.csexp.specs.Limits.{item_bytes, item_levels, ending_of}
 use Rattle.shapes.specs.Texts.{item_in}
 use Rattle.wim.specs.Step.{Browser}

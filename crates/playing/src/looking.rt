@@ -2,7 +2,7 @@
 ghost use Rattle.std.specs.Prelude.{◌≡◌};
 ghost use Rattle.playing.specs.Portions.{unended, next_in};
 
-use csexp::{Ending, ITEM_BYTES, ITEM_LEVELS, ends_at};
+use csexp::{ITEM_BYTES, ITEM_LEVELS, ends_at};
 
 // The longest line: "An outgoing event has at most 4,096 bytes" (01 "Numbers, names, sizes"), and the line break.
 pub const LINE_BYTES: usize = 4097;
@@ -51,8 +51,8 @@ pub fn next_in(s: &[u8], last: bool, room: usize) -> Next
     }
     let first = ends_at(s, 0, ITEM_BYTES, ITEM_LEVELS);
     match first {
-        Ending::Whole(end) => Next::Item(end),
-        Ending::Broken => {
+        Some(end) => Next::Item(end),
+        None => {
             let why = unended(s, last);
             Next::Nothing(why)
         }

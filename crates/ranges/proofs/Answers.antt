@@ -1,7 +1,7 @@
 -- HTTP answers and DNS answers are ranged: Algorithm 8, and A9:55 to 74.
 use mathlib.Core.Bool.{Bool, true, false, cond, not, ◌&&◌, ◌||◌}
 use mathlib.Core.List.{List, [], ◌∷◌}
-use mathlib.Core.Option.{Option, none, some}
+use Rattle.std.specs.Prelude.{Option, None as none, Some as some}
 use native.Mathlib.Omega.{arith}
 use lib.Dec.{eqb}
 use Rattle.sorted.specs.Table.{keep, All, put}

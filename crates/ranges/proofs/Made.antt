@@ -1,7 +1,7 @@
 -- THE THEOREMS on browsers that accepted steps have made of items that were read: their tables are sound, and what they send is read back.
 use mathlib.Core.Path.{◌≡◌}
 use mathlib.Core.List.{List}
-use mathlib.Core.Option.{some}
+use Rattle.std.specs.Prelude.{Some as some}
 use Prim.Native.Nat.{ℕ}
 use Rattle.csexp.specs.Term.{write}
 use Rattle.shapes.specs.Texts.{item, item_in}

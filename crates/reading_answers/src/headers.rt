@@ -19,8 +19,8 @@ fn has_location(l: Location) -> bool
     ensures { result ≡ has_location l }
 {
     match l {
-        Location::Nowhere => false,
-        Location::To(_) => true,
+        None => false,
+        Some(_) => true,
     }
 }
 
@@ -85,7 +85,7 @@ fn location_header(s: &[u8], at: usize, h: Headers) -> HeadersAt
         value: Headers {
             set: h.set,
             cookies,
-            location: Location::To(url),
+            location: Some(url),
             strict: h.strict,
             policy,
         },
@@ -198,7 +198,7 @@ fn one_header(s: &[u8], at: usize, h: Headers) -> HeadersAt
 const NO_HEADERS: Headers = Headers {
     set: false,
     cookies: NO_COOKIES,
-    location: Location::Nowhere,
+    location: None,
     strict: false,
     policy: Policy::Unset,
 };

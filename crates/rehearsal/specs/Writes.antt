@@ -1,7 +1,7 @@
 -- What is told of a step that was performed, with the event in the buffer.
 use Rattle.std.specs.Prelude.{◌≡◌, Bool, true, List, ℕ, ◌+◌, ◌≤◌, length}
-use Rattle.csexp.specs.declared.write.Written.{Written}
-use Rattle.csexp.specs.declared.write.Written.TheVariants.{Bytes, NoRoom as Crowded}
+use Rattle.csexp.specs.Sent.{Written}
+use Rattle.std.specs.Prelude.{Some as Bytes, None as Crowded}
 use Rattle.types.specs.declared.refusals.Refusal.TheVariants.{NoRoom}
 use Rattle.types.specs.declared.refusals.Verdict.{Verdict}
 use Rattle.types.specs.declared.refusals.Verdict.TheVariants.{Refused}

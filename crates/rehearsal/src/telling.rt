@@ -1,7 +1,6 @@
 // What a step hands back to its caller: the verdict, and the event in the lent buffer.
 ghost use Rattle.rehearsal.specs.Writes.{Wide, Writes};
 
-use csexp::write::Written;
 use stepping::Performed;
 use types::refusals::{Refusal, Verdict};
 use writing::write_event;
@@ -31,11 +30,11 @@ pub fn tell(done: Performed, out: &mut [u8], place: usize) -> Rehearsed
     let request = done.request;
     let written = write_event(out, place, sent, request);
     match written {
-        Written::Bytes(count) => {
+        Some(count) => {
             let verdict = done.verdict;
             Rehearsed { verdict, count }
         }
-        Written::NoRoom => Rehearsed {
+        None => Rehearsed {
             verdict: Verdict::Refused(Refusal::NoRoom),
             count: 0,
         },

@@ -1,6 +1,6 @@
 -- The ways through CLOSECORRUPT, on any tables and fresh numbers. No code stands here.
 use mathlib.Core.Path.{◌≡◌, refl}
-use mathlib.Core.Option.{none}
+use Rattle.std.specs.Prelude.{None as none}
 use Rattle.types.specs.declared.Fresh.{Fresh}
 use Rattle.tables.specs.Tables.{Tables}
 use Rattle.wim.specs.Program.{made, run}

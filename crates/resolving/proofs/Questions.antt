@@ -2,7 +2,7 @@
 use mathlib.Core.Path.{◌≡◌, refl, sym, ◌∙◌, ap, subst}
 use mathlib.Core.Bool.{Bool, true, false, not}
 use mathlib.Core.List.{List, [], ◌∷◌}
-use mathlib.Core.Option.{Option, some}
+use Rattle.std.specs.Prelude.{Option, Some as some}
 use Prim.Native.Nat.{ℕ}
 use Rattle.types.specs.declared.Address.{Address}
 use Rattle.types.specs.declared.Protocol.TheVariants.{Plain, Secure}
@@ -10,8 +10,8 @@ use Rattle.types.specs.declared.answers.DnsAnswer.{DnsAnswer}
 use Rattle.types.specs.declared.Fresh.{Fresh}
 use Rattle.types.specs.declared.refusals.Missing.TheVariants.{NoQuestion, Mismatch}
 use Rattle.types.specs.declared.refusals.Refusal.TheVariants.{Lacking}
-use Rattle.types.specs.declared.Seal.{Seal}
-use Rattle.types.specs.declared.Seal.TheVariants.{Keyless, Keyed}
+use Rattle.types.specs.Perhaps.{Seal}
+use Rattle.std.specs.Prelude.{None as Keyless, Some as Keyed}
 use Rattle.types.specs.declared.rows.Question.{Question}
 use Rattle.types.specs.declared.rows.Waiting.{Waiting}
 use Rattle.sorted.specs.Order.{same}

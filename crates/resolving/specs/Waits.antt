@@ -2,7 +2,7 @@
 use Rattle.std.specs.Prelude.{◌≡◌, List, [], ◌∷◌, ℕ}
 use Rattle.types.specs.declared.Address.{Address}
 use Rattle.types.specs.declared.Fresh.{Fresh}
-use Rattle.types.specs.declared.Seal.{Seal}
+use Rattle.types.specs.Perhaps.{Seal}
 use Rattle.types.specs.declared.rows.Question.{Question}
 use Rattle.sorted.specs.Table.{put, drop}
 use Rattle.tables.specs.Tables.{pending_dns, pending_requests, key_of, Tables, apply}

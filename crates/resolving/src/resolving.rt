@@ -1,6 +1,6 @@
 // 000 Algorithm 9, lines 64 to 74: a DNS answer. The request that waited for its host's address goes out, and waits for its answer.
 ghost use Rattle.std.specs.Prelude.{◌≡◌, [], ◌∷◌};
-ghost use Rattle.std.proofs.Math.Option.{some};
+ghost use Rattle.std.specs.Prelude.{Some as some};
 ghost use Rattle.types.specs.declared.Protocol.TheVariants.{Plain, Secure};
 ghost use Rattle.tables.specs.Tables.{pending_dns, pending_requests};
 ghost use Rattle.wim.specs.Program.{ask, question};
@@ -49,7 +49,7 @@ fn go_plain(m: &mut Memory, q: Question, address: Address, f: Fresh) -> Performe
 {
     if stepping::brings_none(f) {
         let asked = q.request;
-        let room = hand_over(m, q, Seal::Keyless, address);
+        let room = hand_over(m, q, None, address);
         return stepping::conclude(room, Sent::Open(address), asked);
     }
     stepping::refuse(Refusal::NotFresh)
@@ -69,7 +69,7 @@ fn go_sealed(m: &mut Memory, q: Question, address: Address, f: Fresh) -> Perform
     if stepping::fresh::ready(m, f, wants) {
         let k = f.key;
         let asked = q.request;
-        let room = hand_over(m, q, Seal::Keyed(k), address);
+        let room = hand_over(m, q, Some(k), address);
         return stepping::conclude(room, Sent::Sealed(address, k), asked);
     }
     stepping::refuse(Refusal::NotFresh)

@@ -2,8 +2,8 @@
 use mathlib.Core.Path.{◌≡◌, refl, sym, ◌∙◌, ap, subst}
 use mathlib.Core.Bool.{Bool, true, false, cond}
 use mathlib.Core.List.{List}
-use mathlib.Core.Option.{Option, none, some}
-use Rattle.types.specs.declared.Matching.{Matching}
+use Rattle.std.specs.Prelude.{Option, None as none, Some as some}
+use Rattle.types.specs.Perhaps.{Matching}
 use Rattle.types.specs.declared.Reference.{Reference}
 use Rattle.types.specs.declared.Reference.TheVariants.{Req, Xhr}
 use Rattle.types.specs.declared.Url.{Url}
@@ -11,8 +11,8 @@ use Rattle.types.specs.declared.WindowNumber.{WindowNumber}
 use Rattle.types.specs.declared.answers.Answer.{Answer}
 use Rattle.types.specs.declared.answers.Body.{Body}
 use Rattle.types.specs.declared.answers.Body.TheVariants.{Number, Page}
-use Rattle.types.specs.declared.answers.Location.{Location}
-use Rattle.types.specs.declared.answers.Location.TheVariants.{Nowhere, To}
+use Rattle.types.specs.Perhaps.{Location}
+use Rattle.std.specs.Prelude.{None as Nowhere, Some as To}
 use Rattle.types.specs.declared.answers.Status.{Status}
 use Rattle.types.specs.declared.commands.Script.{Script}
 use Rattle.types.specs.declared.commands.ScriptState.{ScriptState}

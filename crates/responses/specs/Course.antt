@@ -1,7 +1,7 @@
 -- The course of an answer in these tables, and the code's value for it.
 use Rattle.std.specs.Prelude.{◌≡◌, [], map, suc, length}
-use Rattle.std.proofs.Math.Option.{Option, none, some}
-use Rattle.types.specs.declared.Matching.{Matching}
+use Rattle.std.specs.Prelude.{Option, None as none, Some as some}
+use Rattle.types.specs.Perhaps.{Matching}
 use Rattle.types.specs.declared.Reference.{Reference}
 use Rattle.types.specs.declared.Reference.TheVariants.{Req, Xhr}
 use Rattle.types.specs.declared.Url.{Url}
@@ -9,8 +9,8 @@ use Rattle.types.specs.declared.WindowNumber.{WindowNumber}
 use Rattle.types.specs.declared.answers.Answer.{Answer}
 use Rattle.types.specs.declared.answers.Body.{Body}
 use Rattle.types.specs.declared.answers.Body.TheVariants.{Number, Page}
-use Rattle.types.specs.declared.answers.Location.{Location}
-use Rattle.types.specs.declared.answers.Location.TheVariants.{Nowhere, To}
+use Rattle.types.specs.Perhaps.{Location}
+use Rattle.std.specs.Prelude.{None as Nowhere, Some as To}
 use Rattle.types.specs.declared.rows.Document.{Document}
 use Rattle.types.specs.declared.rows.News.TheVariants.{Answered}
 use Rattle.tables.specs.Tables.{Tables}

@@ -1,5 +1,5 @@
 // 000 A9:55 to 63: an HTTP answer comes in, encrypted or plain.
-ghost use Rattle.std.proofs.Math.Option.{some};
+ghost use Rattle.std.specs.Prelude.{Some as some};
 ghost use Rattle.types.specs.Lists.{cookies_in};
 ghost use Rattle.wim.specs.Program.{ask, keyless, keyed};
 ghost use Rattle.wim.specs.Main.{encrypted_answer, plain_answer};

@@ -1,6 +1,6 @@
 // The course of an answer: which way it goes, and what is looked at for it, before anything is changed (000 A8:11, 24, 30 to 34, 46, 47).
 ghost use Rattle.std.specs.Prelude.{◌≡◌};
-ghost use Rattle.std.proofs.Math.Option.{none};
+ghost use Rattle.std.specs.Prelude.{None as none};
 ghost use Rattle.wim.specs.Program.{observed, reached, listening};
 ghost use Rattle.wim.specs.Response.{is_redirect, where_to};
 ghost use Rattle.browser.specs.View.{view};
@@ -74,7 +74,7 @@ fn where_to(s: Status, l: Location) -> Location
     if is_redirect(s) {
         return l;
     }
-    Location::Nowhere
+    None
 }
 
 // A8:30 to 44: a window's answer without a redirect; a page goes into the history of the window, from which some go.
@@ -105,8 +105,8 @@ fn window_course(m: &Memory, v: WindowNumber, a: Answer) -> Plan
         let l = a.location;
         let to = where_to(s, l);
         return match to {
-            Location::Nowhere => body_course(m, v, a),
-            Location::To(u) => alone(Course::Followed(u)),
+            None => body_course(m, v, a),
+            Some(u) => alone(Course::Followed(u)),
         };
     }
     alone(Course::NothingMore)
@@ -135,8 +135,8 @@ fn script_course(m: &Memory, n: DocumentNumber, matching: Matching, a: Answer) -
     let l = a.location;
     let to = where_to(s, l);
     match to {
-        Location::Nowhere => heard_course(m, n, matching, a),
-        Location::To(_) => alone(Course::NothingMore),
+        None => heard_course(m, n, matching, a),
+        Some(_) => alone(Course::NothingMore),
     }
 }
 

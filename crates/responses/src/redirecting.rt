@@ -14,8 +14,8 @@ fn inheriting(old: Fragment, new: Fragment) -> Fragment
     ensures { result ≡ inheriting old new }
 {
     match new {
-        Fragment::Absent => old,
-        Fragment::Named(_) => new,
+        None => old,
+        Some(_) => new,
     }
 }
 

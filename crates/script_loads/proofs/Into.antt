@@ -9,7 +9,7 @@ use Rattle.types.specs.declared.WindowNumber.{WindowNumber}
 use Rattle.types.specs.declared.Cancelled.TheVariants.{Labelled}
 use Rattle.types.specs.declared.Reference.TheVariants.{Req}
 use Rattle.types.specs.declared.Sending.{Sending}
-use Rattle.types.specs.declared.rows.Opener.{Opener}
+use Rattle.types.specs.Perhaps.{Opener}
 use Rattle.types.specs.declared.rows.Window.{Window}
 use Rattle.sorted.specs.Table.{put}
 use Rattle.tables.specs.Tables.{windows, documents, Tables, apply}

@@ -1,8 +1,8 @@
 -- The window that IFRAME hangs: under a document, and nobody opened it (A7:33).
 use Rattle.types.specs.declared.DocumentNumber.{DocumentNumber}
 use Rattle.types.specs.declared.WindowNumber.{WindowNumber}
-use Rattle.types.specs.declared.rows.Opener.TheVariants.{Nobody}
-use Rattle.types.specs.declared.rows.Parent.TheVariants.{Under}
+use Rattle.std.specs.Prelude.{None as Nobody}
+use Rattle.std.specs.Prelude.{Some as Under}
 use Rattle.types.specs.declared.rows.Window.{Window}
 
 abbrev pub frame_window : WindowNumber → DocumentNumber → Window

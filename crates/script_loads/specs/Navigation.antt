@@ -9,8 +9,8 @@ use Rattle.types.specs.declared.OriginHeader.TheVariants.{Unsent}
 use Rattle.types.specs.declared.Reference.TheVariants.{Req}
 use Rattle.types.specs.declared.Sending.{Sending}
 use Rattle.types.specs.declared.rows.Document.{Document}
-use Rattle.types.specs.declared.rows.Opener.{Opener}
-use Rattle.types.specs.declared.rows.Opener.TheVariants.{OpenedBy}
+use Rattle.types.specs.Perhaps.{Opener}
+use Rattle.std.specs.Prelude.{Some as OpenedBy}
 use Rattle.sorted.specs.Table.{put}
 use Rattle.tables.specs.Tables.{windows}
 use Rattle.tables.specs.Labels.{window}

@@ -11,7 +11,7 @@ use stepping::Performed;
 use storing::scene::Scene;
 use types::commands::Holder;
 use types::refusals::Refusal;
-use types::rows::{Document, Opener, Parent, Window};
+use types::rows::{Document, Window};
 use types::{DocumentNumber, Fresh, Url, Wants, WindowNumber};
 
 // A7:33
@@ -20,8 +20,8 @@ fn frame_window(v: WindowNumber, n: DocumentNumber) -> Window
 {
     Window {
         number: v,
-        parent: Parent::Under(n),
-        opener: Opener::Nobody,
+        parent: Some(n),
+        opener: None,
     }
 }
 

@@ -11,7 +11,7 @@ use stepping::Performed;
 use storing::scene::Scene;
 use types::commands::Target;
 use types::refusals::Refusal;
-use types::rows::{Document, Opener, Parent, Window};
+use types::rows::{Document, Opener, Window};
 use types::{Cancelled, Data, Fresh, Method, Reference, Sending, Url, Wants, WindowNumber};
 
 // What is loaded: by a link, with its address and whether it is noreferrer; by a form, with its address, method and data.
@@ -36,9 +36,9 @@ fn opener_unless(noreferrer: bool, w: WindowNumber) -> Opener
     ensures { result ≡ opener_unless noreferrer w }
 {
     if noreferrer {
-        return Opener::Nobody;
+        return None;
     }
-    Opener::OpenedBy(w)
+    Some(w)
 }
 
 fn opener_by(l: Load, w: WindowNumber) -> Opener
@@ -46,7 +46,7 @@ fn opener_by(l: Load, w: WindowNumber) -> Opener
 {
     match l {
         Load::Link(_, noreferrer) => opener_unless(noreferrer, w),
-        Load::Form(_, _, _) => Opener::OpenedBy(w),
+        Load::Form(_, _, _) => Some(w),
     }
 }
 
@@ -56,7 +56,7 @@ fn new_top_window(v: WindowNumber, opener: Opener) -> Window
 {
     Window {
         number: v,
-        parent: Parent::Top,
+        parent: None,
         opener: opener,
     }
 }

@@ -9,7 +9,7 @@ ghost use Rattle.wim.specs.Script.{no_data, sending_from, href_policy, form_send
 use sending::request_tests::{is_get, is_get_or_head};
 use types::rows::Document;
 use types::{
-    Data, Method, OriginHeader, Parameters, Policy, Reference, Referrer, Sending, Url, WindowNumber,
+    Data, Method, OriginHeader, Parameters, Policy, Reference, Sending, Url, WindowNumber,
 };
 
 fn sending_from(
@@ -32,7 +32,7 @@ fn sending_from(
         parameters: parameters,
         body: body,
         origin: origin,
-        referrer: Referrer::Known(location),
+        referrer: Some(location),
         policy: policy,
     }
 }

@@ -16,7 +16,7 @@ use stepping::Performed;
 use types::cookies::Jar;
 use types::rows::Question;
 use types::{
-    Cancelled, DnsNumber, Fragment, Fresh, Parameters, Path, Policy, Protocol, Referrer, Request,
+    Cancelled, DnsNumber, Fresh, Parameters, Path, Policy, Protocol, Referrer, Request,
     RequestNumber, Sending, Sent, Url,
 };
 
@@ -52,7 +52,7 @@ fn unfragmented(u: Url) -> Url
         host: h,
         path: p,
         parameters: q,
-        fragment: Fragment::Absent,
+        fragment: None,
     }
 }
 
@@ -66,7 +66,7 @@ fn stripped(u: Url) -> Url
         host: h,
         path: Path(0),
         parameters: Parameters(0),
-        fragment: Fragment::Absent,
+        fragment: None,
     }
 }
 
@@ -76,13 +76,13 @@ fn referer(p: Policy, r: Referrer) -> Referrer
 {
     match p {
         Policy::Unset => match r {
-            Referrer::Unknown => Referrer::Unknown,
-            Referrer::Known(u) => Referrer::Known(unfragmented(u)),
+            None => None,
+            Some(u) => Some(unfragmented(u)),
         },
-        Policy::NoReferrer => Referrer::Unknown,
+        Policy::NoReferrer => None,
         Policy::OriginOnly => match r {
-            Referrer::Unknown => Referrer::Unknown,
-            Referrer::Known(u) => Referrer::Known(stripped(u)),
+            None => None,
+            Some(u) => Some(stripped(u)),
         },
     }
 }

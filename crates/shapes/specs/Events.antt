@@ -1,6 +1,6 @@
 -- Events that go out, as terms (01 "The text": "Request headers stand as Cookie, Origin, Referer; Cookie is always there, even empty").
 use Rattle.std.specs.Prelude.{cond, List, [], ℕ}
-use Rattle.std.proofs.Math.Option.{Option, none, some}
+use Rattle.std.specs.Prelude.{Option, None as none, Some as some}
 use Rattle.csexp.specs.Text.{text}
 use Rattle.csexp.specs.Term.{Term, atom, list, Terms, nil, cons, write}
 use Rattle.csexp.specs.Encode.{number_term, optional_term, each, labelled, joins}

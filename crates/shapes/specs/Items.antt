@@ -1,6 +1,6 @@
 -- Items: what is taken, part by part; what is not decoded here is refusal 2 (01 "The text"; the messages of 000 section 2.2).
 use Rattle.std.specs.Prelude.{Bool, true, false, List, [], ℕ, zero, suc, length, get_or}
-use Rattle.std.proofs.Math.Option.{none, some}
+use Rattle.std.specs.Prelude.{None as none, Some as some}
 use Rattle.sorted.specs.Table.{fill}
 use Rattle.csexp.specs.Text.{text}
 use Rattle.csexp.specs.Term.{nil, cons}

@@ -1,6 +1,6 @@
 -- What a text is taken for: refusal 1 where it is not one whole canonical term within the limits, 2 where the term is no item, else the item.
 use Rattle.std.specs.Prelude.{◌≡◌, cond, List, ℕ, ◌≤◌, length}
-use Rattle.std.proofs.Math.Option.{Option, none, some}
+use Rattle.std.specs.Prelude.{Option, None as none, Some as some}
 use Rattle.csexp.specs.Term.{Term, write, levels}
 use Rattle.csexp.specs.Read.{Got, no, got, read}
 use Rattle.csexp.specs.Limits.{item_bytes, item_levels, whole_of}

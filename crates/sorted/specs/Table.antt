@@ -1,6 +1,6 @@
 -- Tables: lists of rows in rising order of a key, over any row and key.
 use Rattle.std.specs.Prelude.{◌≡◌, ◌⊎◌, Bool, true, false, cond, not, List, [], ◌∷◌, ◌++◌, ℕ, zero, suc, leb, length, take, drop as behind}
-use Rattle.std.proofs.Math.Option.{Option, none, some}
+use Rattle.std.specs.Prelude.{Option, None as none, Some as some}
 use Rattle.sorted.specs.declared.Order.{Order}
 use Rattle.sorted.specs.declared.Order.TheVariants.{Before, Same, After}
 use Rattle.sorted.specs.Order.{same, after}

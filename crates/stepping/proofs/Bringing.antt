@@ -2,7 +2,7 @@
 use mathlib.Core.Path.{◌≡◌, refl, sym, ap, ◌∙◌}
 use mathlib.Core.Bool.{Bool, true, false, cond, ◌&&◌}
 use mathlib.Core.List.{List, [], ◌∷◌, map}
-use mathlib.Core.Option.{Option}
+use Rattle.std.specs.Prelude.{Option}
 use lib.Dec.{eqb}
 use Rattle.types.specs.declared.refusals.Refusal.TheVariants.{NotFresh}
 use Rattle.tables.specs.Tables.{Tables, update, apply}

@@ -1,6 +1,6 @@
 -- What a step in place gives: what the definitions say; and at a refusal but 6 the memory is the very one that it was.
 use Rattle.std.specs.Prelude.{◌≡◌, Bool, true, false, List, ℕ}
-use Rattle.std.proofs.Math.Option.{none}
+use Rattle.std.specs.Prelude.{None as none}
 use Rattle.types.specs.declared.refusals.Refusal.{Refusal}
 use Rattle.types.specs.declared.refusals.Refusal.TheVariants.{BadText, BadShape, Lacking, Stopped, NotFresh, Full, NoRoom, Closed}
 use Rattle.types.specs.declared.refusals.Verdict.TheVariants.{Accepted, Refused}

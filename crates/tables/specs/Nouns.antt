@@ -5,8 +5,8 @@ pub use Rattle.types.specs.declared.KeyNumber.{KeyNumber}
 pub use Rattle.types.specs.declared.Host.{Host}
 pub use Rattle.types.specs.declared.Protocol.{Protocol}
 pub use Rattle.types.specs.declared.Protocol.TheVariants.{Plain, Secure}
-pub use Rattle.types.specs.declared.Fragment.{Fragment}
-pub use Rattle.types.specs.declared.Fragment.TheVariants.{Absent, Named}
+pub use Rattle.types.specs.Perhaps.{Fragment}
+pub use Rattle.std.specs.Prelude.{None as Absent, Some as Named}
 pub use Rattle.types.specs.declared.Url.{Url}
 pub use Rattle.types.specs.declared.Origin.{Origin}
 pub use Rattle.types.specs.declared.cookies.CookieName.{CookieName}
@@ -17,25 +17,25 @@ pub use Rattle.types.specs.declared.Method.{Method}
 pub use Rattle.types.specs.declared.Method.TheVariants.{Get, Head, Post, Put, Delete, Connect, Options, Trace}
 pub use Rattle.types.specs.declared.OriginHeader.{OriginHeader}
 pub use Rattle.types.specs.declared.OriginHeader.TheVariants.{Unsent, Null, From}
-pub use Rattle.types.specs.declared.Referrer.{Referrer}
-pub use Rattle.types.specs.declared.Referrer.TheVariants.{Unknown, Known}
+pub use Rattle.types.specs.Perhaps.{Referrer}
+pub use Rattle.std.specs.Prelude.{None as Unknown, Some as Known}
 pub use Rattle.types.specs.declared.Policy.{Policy}
 pub use Rattle.types.specs.declared.Policy.TheVariants.{Unset, NoReferrer, OriginOnly}
-pub use Rattle.types.specs.declared.Matching.{Matching}
-pub use Rattle.types.specs.declared.Matching.TheVariants.{Unmatched, By}
+pub use Rattle.types.specs.Perhaps.{Matching}
+pub use Rattle.std.specs.Prelude.{None as Unmatched, Some as By}
 pub use Rattle.types.specs.declared.Reference.{Reference}
 pub use Rattle.types.specs.declared.Reference.TheVariants.{Req, Xhr}
 pub use Rattle.types.specs.declared.Request.{Request}
-pub use Rattle.types.specs.declared.Seal.{Seal}
-pub use Rattle.types.specs.declared.Seal.TheVariants.{Keyless, Keyed}
+pub use Rattle.types.specs.Perhaps.{Seal}
+pub use Rattle.std.specs.Prelude.{None as Keyless, Some as Keyed}
 pub use Rattle.types.specs.declared.commands.Script.{Script}
 pub use Rattle.types.specs.declared.commands.ScriptState.{ScriptState}
 pub use Rattle.types.specs.declared.answers.Body.{Body}
 pub use Rattle.types.specs.declared.answers.Body.TheVariants.{Number, Page}
-pub use Rattle.types.specs.declared.rows.Parent.{Parent}
-pub use Rattle.types.specs.declared.rows.Parent.TheVariants.{Top, Under}
-pub use Rattle.types.specs.declared.rows.Opener.{Opener}
-pub use Rattle.types.specs.declared.rows.Opener.TheVariants.{Nobody, OpenedBy}
+pub use Rattle.types.specs.Perhaps.{Parent}
+pub use Rattle.std.specs.Prelude.{None as Top, Some as Under}
+pub use Rattle.types.specs.Perhaps.{Opener}
+pub use Rattle.std.specs.Prelude.{None as Nobody, Some as OpenedBy}
 pub use Rattle.types.specs.declared.rows.Window.{Window}
 pub use Rattle.types.specs.declared.rows.Document.{Document}
 pub use Rattle.types.specs.declared.rows.HostCookie.{HostCookie}

@@ -2,7 +2,7 @@
 use mathlib.Core.Path.{◌≡◌, refl, sym, ◌∙◌, ap, ap₂}
 use mathlib.Core.Bool.{Bool, true, false}
 use mathlib.Core.List.{List, [], ◌∷◌}
-use mathlib.Core.Option.{Option, none, some}
+use Rattle.std.specs.Prelude.{Option, None as none, Some as some}
 use Rattle.types.specs.declared.Url.{Url}
 use Rattle.types.specs.declared.commands.Target.TheVariants.{NewWindow, Existing}
 use Rattle.types.specs.declared.Fresh.{Fresh}
@@ -10,10 +10,10 @@ use Rattle.types.specs.declared.WindowNumber.{WindowNumber}
 use Rattle.types.specs.declared.refusals.Missing.TheVariants.{NoWindow, NoDocument}
 use Rattle.types.specs.declared.refusals.Refusal.TheVariants.{Lacking}
 use Rattle.types.specs.declared.Reference.TheVariants.{Req}
-use Rattle.types.specs.declared.Referrer.TheVariants.{Unknown}
+use Rattle.std.specs.Prelude.{None as Unknown}
 use Rattle.types.specs.declared.Sending.{Sending}
 use Rattle.types.specs.declared.rows.Document.{Document}
-use Rattle.types.specs.declared.rows.Opener.TheVariants.{Nobody}
+use Rattle.std.specs.Prelude.{None as Nobody}
 use Rattle.types.specs.declared.rows.Window.{Window}
 use Rattle.sorted.specs.Table.{put}
 use Rattle.tables.specs.Tables.{windows, documents, Tables, apply}

@@ -2,8 +2,8 @@
 ghost use Rattle.std.specs.Prelude.{◌≡◌};
 ghost use Rattle.types.specs.declared.commands.Target.TheVariants.{NewWindow, Existing};
 ghost use Rattle.types.specs.declared.Reference.TheVariants.{Req};
-ghost use Rattle.types.specs.declared.Referrer.TheVariants.{Unknown};
-ghost use Rattle.types.specs.declared.rows.Opener.TheVariants.{Nobody};
+ghost use Rattle.std.specs.Prelude.{None as Unknown};
+ghost use Rattle.std.specs.Prelude.{None as Nobody};
 ghost use Rattle.wim.specs.Main.{sending_to, urlbar};
 ghost use Rattle.wim.specs.Script.{new_top_window};
 ghost use Rattle.wim.specs.Sending.{send};
@@ -14,8 +14,8 @@ use memory::Memory;
 use stepping::Performed;
 use types::commands::Target;
 use types::refusals::{Missing, Refusal};
-use types::rows::{Opener, Parent, Window};
-use types::{Fresh, Referrer, Url, Wants, WindowNumber};
+use types::rows::Window;
+use types::{Fresh, Url, Wants, WindowNumber};
 
 // 17
 fn top_window(w: WindowNumber) -> Window
@@ -23,8 +23,8 @@ fn top_window(w: WindowNumber) -> Window
 {
     Window {
         number: w,
-        parent: Parent::Top,
-        opener: Opener::Nobody,
+        parent: None,
+        opener: None,
     }
 }
 
@@ -43,7 +43,7 @@ fn urlbar_new(m: &mut Memory, url: Url, f: Fresh) -> Performed
         let w = f.window;
         let row = top_window(w);
         let room = windows::put(m, row);
-        let o = sending_to(w, url, Referrer::Unknown);
+        let o = sending_to(w, url, None);
         return sending::http_send(m, room, o, f);
     }
     stepping::refuse(Refusal::NotFresh)
@@ -61,7 +61,7 @@ fn load_into(m: &mut Memory, url: Url, w: WindowNumber, f: Fresh) -> Performed
         document: false,
     };
     if stepping::fresh::ready(m, f, wants) {
-        let o = sending_to(w, url, Referrer::Unknown);
+        let o = sending_to(w, url, None);
         return sending::http_send(m, true, o, f);
     }
     stepping::refuse(Refusal::NotFresh)

@@ -6,11 +6,8 @@ use super::{Address, DnsNumber, Host, Policy, RequestNumber, Url};
 #[derive(Clone, Copy)]
 pub struct Status(pub u16);
 
-#[derive(Clone, Copy)]
-pub enum Location {
-    Nowhere,
-    To(Url),
-}
+// The Location header: where an answer points, if anywhere.
+pub type Location = Option<Url>;
 
 // A number, or a page: a script with its first state.
 #[derive(Clone, Copy)]

@@ -21,12 +21,8 @@ pub enum Holder {
     Within(WindowNumber),
 }
 
-// For whom a message is: any origin (000's ⊥) or one.
-#[derive(Clone, Copy)]
-pub enum Addressee {
-    Anyone,
-    Only(Origin),
-}
+// For which origin a message is; None, 000's ⊥, for any.
+pub type Addressee = Option<Origin>;
 
 #[derive(Clone, Copy)]
 pub enum Command {

@@ -1,7 +1,7 @@
 // Cookies: 000 Definition 14.
 
 // With the prefix __Host, or without.
-#[derive(Clone, Copy)]
+#[derive(Clone, Copy, PartialEq, Eq)]
 pub struct CookieName {
     pub prefixed: bool,
     pub number: u16,

@@ -13,23 +13,23 @@ use cookies::Jar;
 
 // The five labels. Each number is a struct of its own, so that a window's is never taken for a document's (01 "Numbers, names, sizes").
 
-#[derive(Clone, Copy)]
+#[derive(Clone, Copy, PartialEq, Eq)]
 pub struct WindowNumber(pub u32);
 
-#[derive(Clone, Copy)]
+#[derive(Clone, Copy, PartialEq, Eq)]
 pub struct DocumentNumber(pub u32);
 
-#[derive(Clone, Copy)]
+#[derive(Clone, Copy, PartialEq, Eq)]
 pub struct RequestNumber(pub u32);
 
-#[derive(Clone, Copy)]
+#[derive(Clone, Copy, PartialEq, Eq)]
 pub struct DnsNumber(pub u32);
 
-#[derive(Clone, Copy)]
+#[derive(Clone, Copy, PartialEq, Eq)]
 pub struct KeyNumber(pub u32);
 
 // A number under its label.
-#[derive(Clone, Copy)]
+#[derive(Clone, Copy, PartialEq, Eq)]
 pub enum Label {
     OfWindow(WindowNumber),
     OfRequest(RequestNumber),
@@ -75,7 +75,7 @@ pub struct DocumentNumbers {
 // Addresses on the wire and in the address bar: 000 Definitions 12 and 13.
 
 // A host's name.
-#[derive(Clone, Copy)]
+#[derive(Clone, Copy, PartialEq, Eq)]
 pub struct Host(pub u16);
 
 // A network address, an element of 000's IPs.
@@ -91,18 +91,14 @@ pub struct Path(pub u16);
 pub struct Parameters(pub u32);
 
 // 000's P and S.
-#[derive(Clone, Copy)]
+#[derive(Clone, Copy, PartialEq, Eq)]
 pub enum Protocol {
     Plain,
     Secure,
 }
 
 // An absent fragment and the fragment 0 are one.
-#[derive(Clone, Copy)]
-pub enum Fragment {
-    Absent,
-    Named(u32),
-}
+pub type Fragment = Option<u32>;
 
 // 000 Definition 12.
 #[derive(Clone, Copy)]
@@ -115,7 +111,7 @@ pub struct Url {
 }
 
 // 000 Definition 13.
-#[derive(Clone, Copy)]
+#[derive(Clone, Copy, PartialEq, Eq)]
 pub struct Origin {
     pub host: Host,
     pub protocol: Protocol,
@@ -148,12 +144,8 @@ pub enum OriginHeader {
     From(Origin),
 }
 
-// The Referer header, a document's referrer; 000's ⊥ is Unknown.
-#[derive(Clone, Copy)]
-pub enum Referrer {
-    Unknown,
-    Known(Url),
-}
+// The Referer header, a document's referrer; 000's ⊥ is None.
+pub type Referrer = Option<Url>;
 
 // The header ReferrerPolicy; 000's ⊥ is Unset.
 #[derive(Clone, Copy)]
@@ -163,15 +155,11 @@ pub enum Policy {
     OriginOnly,
 }
 
-// The number by which a script knows its XHR's answer again; 000's ⊥ is Unmatched.
-#[derive(Clone, Copy)]
-pub enum Matching {
-    Unmatched,
-    By(u32),
-}
+// The number by which a script knows its XHR's answer again; 000's ⊥ is None.
+pub type Matching = Option<u32>;
 
 // 000 Definition 32: whom an answer is for, a window or the script of a document.
-#[derive(Clone, Copy)]
+#[derive(Clone, Copy, PartialEq, Eq)]
 pub enum Reference {
     Req(WindowNumber),
     Xhr(DocumentNumber, Matching),
@@ -211,12 +199,8 @@ pub struct Sending {
     pub policy: Policy,
 }
 
-// The key of a request that went out encrypted; 000's ⊥ is Keyless.
-#[derive(Clone, Copy)]
-pub enum Seal {
-    Keyless,
-    Keyed(KeyNumber),
-}
+// The key of a request that went out encrypted; 000's ⊥ is None.
+pub type Seal = Option<KeyNumber>;
 
 // What goes out. The request of the last two stands beside, since an enum holds no array.
 #[derive(Clone, Copy)]

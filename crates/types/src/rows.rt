@@ -8,18 +8,11 @@ use super::{
     Request, Seal, Url, WindowNumber,
 };
 
-// What a window hangs under.
-#[derive(Clone, Copy)]
-pub enum Parent {
-    Top,
-    Under(DocumentNumber),
-}
+// The document that a window hangs under; None for a top-level window.
+pub type Parent = Option<DocumentNumber>;
 
-#[derive(Clone, Copy)]
-pub enum Opener {
-    Nobody,
-    OpenedBy(WindowNumber),
-}
+// The window that opened a window; None where nobody did.
+pub type Opener = Option<WindowNumber>;
 
 // 000 Definition 29. Its documents are rows of their own.
 #[derive(Clone, Copy)]

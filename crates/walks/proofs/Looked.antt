@@ -2,7 +2,7 @@
 use mathlib.Core.Path.{◌≡◌, refl, sym, ◌∙◌, ap, ap₂}
 use mathlib.Core.Bool.{Bool, true, false, ◌&&◌}
 use mathlib.Core.List.{List}
-use mathlib.Core.Option.{Option, none, some}
+use Rattle.std.specs.Prelude.{Option, None as none, Some as some}
 use Rattle.sorted.specs.Table.{looked, is_some}
 use Rattle.tables.specs.Rows.{origin_of, same_origin}
 use Rattle.wim.specs.Nouns.{Window, Document, Parent, Top, Under}

@@ -56,8 +56,8 @@ fn is_highest(p: Parent) -> bool
     ensures { result ≡ is_highest p }
 {
     match p {
-        Parent::Top => true,
-        Parent::Under(_) => false,
+        None => true,
+        Some(_) => false,
     }
 }
 
@@ -87,8 +87,8 @@ fn above_parent(m: &Memory, p: Parent) -> Above
     ensures { standing result ≡ above_parent (table documents_in m.now) p }
 {
     match p {
-        Parent::Top => Above::Topmost,
-        Parent::Under(n) => holder(m, n),
+        None => Above::Topmost,
+        Some(n) => holder(m, n),
     }
 }
 

@@ -2,7 +2,7 @@
 use mathlib.Core.Path.{◌≡◌, sym, ap}
 use mathlib.Core.Bool.{true}
 use mathlib.Core.List.{List}
-use mathlib.Core.Option.{some}
+use Rattle.std.specs.Prelude.{Some as some}
 use borrow.Author.Tests.{eqb-true, eq-eqb}
 use Rattle.sorted.specs.Order.{cmpℕ, same}
 use Rattle.sorted.specs.Table.{In}

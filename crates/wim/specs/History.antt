@@ -1,6 +1,6 @@
 -- 000 Algorithms 5 and 6, NAVBACK and NAVFORWARD.
 use Rattle.std.specs.Prelude.{true, false, List, ℕ, suc, eqb}
-use Rattle.std.proofs.Math.Option.{Option, none, some}
+use Rattle.std.specs.Prelude.{Option, None as none, Some as some}
 use Rattle.sorted.specs.Table.{find}
 use Rattle.tables.specs.Tables.{documents}
 use Rattle.tables.specs.Rows.{setting_active}

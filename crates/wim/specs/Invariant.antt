@@ -1,6 +1,6 @@
 -- What holds of the tables that accepted steps have made from empty ones: of whatever items numbered and rooted, of items that were read in range too.
 use Rattle.std.specs.Prelude.{◌≡◌, ◌⊎◌, true, suc, ◌≤◌, length}
-use Rattle.std.proofs.Math.Option.{Option, some}
+use Rattle.std.specs.Prelude.{Option, Some as some}
 use Rattle.sorted.specs.Table.{In, Sorted}
 use Rattle.tables.specs.Tables.{Table, windows, documents, inputs, pending_dns, pending_requests, Row, key_of, cmp, cap, Tables, no_rows}
 use Rattle.shapes.specs.Events.{Message}

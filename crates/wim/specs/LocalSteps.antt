@@ -1,6 +1,6 @@
 -- Local steps: which they are, where they stand, their hosts, the numbers that they name (01 "Local steps, for demand 3").
 use Rattle.std.specs.Prelude.{Bool, true, false, List, [], ◌∷◌, ◌++◌, ℕ}
-use Rattle.std.proofs.Math.Option.{Option, none, some}
+use Rattle.std.specs.Prelude.{Option, None as none, Some as some}
 use Rattle.tables.specs.Tables.{windows, documents, Tables}
 use Rattle.tables.specs.Labels.{Kind, window, request, dns, key, document, host, Label, leads}
 use Rattle.tables.specs.Rows.{same_window}

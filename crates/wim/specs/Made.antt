@@ -1,6 +1,6 @@
 -- The browsers that accepted steps have made: of any items, and of items that were read.
 use Rattle.std.specs.Prelude.{◌≡◌, List, ℕ}
-use Rattle.std.proofs.Math.Option.{Option}
+use Rattle.std.specs.Prelude.{Option}
 use Rattle.shapes.specs.Events.{Message}
 use Rattle.shapes.specs.Texts.{item, item_in}
 use Rattle.wim.specs.Nouns.{Item}

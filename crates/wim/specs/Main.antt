@@ -1,6 +1,6 @@
 -- 000 Algorithm 9, the main algorithm: a program for each event.
 use Rattle.std.specs.Prelude.{false, not, List, [], ◌∷◌, eqb}
-use Rattle.std.proofs.Math.Option.{Option, none, some}
+use Rattle.std.specs.Prelude.{Option, None as none, Some as some}
 pub use Rattle.types.specs.Lists.{cookies_in}
 use Rattle.sorted.specs.Table.{put, drop, sift}
 use Rattle.tables.specs.Tables.{windows, documents, cookies, session_storage, inputs, pending_dns, pending_requests, key_of}

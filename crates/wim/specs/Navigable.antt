@@ -1,7 +1,7 @@
 -- 000 Definition 38: the windows that the active document of a window may navigate, as the least set under its four rules; and how it is
 -- computed, as a test, as a mask with a bit for each window row, and as its size.
 use Rattle.std.specs.Prelude.{◌≡◌, ◌⊎◌, Bool, true, false, ◌&&◌, ◌||◌, List, [], ◌∷◌, ℕ, zero, suc, ◌+◌, ◌*◌, length}
-use Rattle.std.proofs.Math.Option.{Option, none, some}
+use Rattle.std.specs.Prelude.{Option, None as none, Some as some}
 use Rattle.sorted.specs.Order.{bit}
 use Rattle.sorted.specs.Table.{keep}
 use Rattle.tables.specs.Rows.{same_window, origin_of}

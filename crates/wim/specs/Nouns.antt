@@ -13,8 +13,8 @@ pub use Rattle.types.specs.declared.Path.{Path}
 pub use Rattle.types.specs.declared.Parameters.{Parameters}
 pub use Rattle.types.specs.declared.Protocol.{Protocol}
 pub use Rattle.types.specs.declared.Protocol.TheVariants.{Plain, Secure}
-pub use Rattle.types.specs.declared.Fragment.{Fragment}
-pub use Rattle.types.specs.declared.Fragment.TheVariants.{Absent, Named}
+pub use Rattle.types.specs.Perhaps.{Fragment}
+pub use Rattle.std.specs.Prelude.{None as Absent, Some as Named}
 pub use Rattle.types.specs.declared.Url.{Url}
 pub use Rattle.types.specs.declared.Origin.{Origin}
 pub use Rattle.types.specs.declared.cookies.CookieName.{CookieName}
@@ -28,20 +28,20 @@ pub use Rattle.types.specs.declared.Method.TheVariants.{Get, Head, Post, Put, De
 pub use Rattle.types.specs.declared.Data.{Data}
 pub use Rattle.types.specs.declared.OriginHeader.{OriginHeader}
 pub use Rattle.types.specs.declared.OriginHeader.TheVariants.{Unsent, Null, From}
-pub use Rattle.types.specs.declared.Referrer.{Referrer}
-pub use Rattle.types.specs.declared.Referrer.TheVariants.{Unknown, Known}
+pub use Rattle.types.specs.Perhaps.{Referrer}
+pub use Rattle.std.specs.Prelude.{None as Unknown, Some as Known}
 pub use Rattle.types.specs.declared.Policy.{Policy}
 pub use Rattle.types.specs.declared.Policy.TheVariants.{Unset, NoReferrer, OriginOnly}
-pub use Rattle.types.specs.declared.Matching.{Matching}
-pub use Rattle.types.specs.declared.Matching.TheVariants.{Unmatched, By}
+pub use Rattle.types.specs.Perhaps.{Matching}
+pub use Rattle.std.specs.Prelude.{None as Unmatched, Some as By}
 pub use Rattle.types.specs.declared.Reference.{Reference}
 pub use Rattle.types.specs.declared.Reference.TheVariants.{Req, Xhr}
 pub use Rattle.types.specs.declared.Cancelled.{Cancelled}
 pub use Rattle.types.specs.declared.Cancelled.TheVariants.{Bare, Labelled}
 pub use Rattle.types.specs.declared.Request.{Request}
 pub use Rattle.types.specs.declared.Sending.{Sending}
-pub use Rattle.types.specs.declared.Seal.{Seal}
-pub use Rattle.types.specs.declared.Seal.TheVariants.{Keyless, Keyed}
+pub use Rattle.types.specs.Perhaps.{Seal}
+pub use Rattle.std.specs.Prelude.{None as Keyless, Some as Keyed}
 pub use Rattle.types.specs.declared.Sent.{Sent}
 pub use Rattle.types.specs.declared.Sent.TheVariants.{Silence, Resolve, Open, Sealed}
 pub use Rattle.types.specs.declared.commands.Script.{Script}
@@ -50,13 +50,13 @@ pub use Rattle.types.specs.declared.commands.Target.{Target}
 pub use Rattle.types.specs.declared.commands.Target.TheVariants.{NewWindow, Existing}
 pub use Rattle.types.specs.declared.commands.Holder.{Holder}
 pub use Rattle.types.specs.declared.commands.Holder.TheVariants.{Itself, Within}
-pub use Rattle.types.specs.declared.commands.Addressee.{Addressee}
-pub use Rattle.types.specs.declared.commands.Addressee.TheVariants.{Anyone, Only}
+pub use Rattle.types.specs.Perhaps.{Addressee}
+pub use Rattle.std.specs.Prelude.{None as Anyone, Some as Only}
 pub use Rattle.types.specs.declared.commands.Command.{Command}
 pub use Rattle.types.specs.declared.commands.Command.TheVariants.{Nothing, Href, Iframe, Form, SetScript, SetScriptState, XmlHttpRequest, Back, Forward, Close, PostMessage}
 pub use Rattle.types.specs.declared.answers.Status.{Status}
-pub use Rattle.types.specs.declared.answers.Location.{Location}
-pub use Rattle.types.specs.declared.answers.Location.TheVariants.{Nowhere, To}
+pub use Rattle.types.specs.Perhaps.{Location}
+pub use Rattle.std.specs.Prelude.{None as Nowhere, Some as To}
 pub use Rattle.types.specs.declared.answers.Body.{Body}
 pub use Rattle.types.specs.declared.answers.Body.TheVariants.{Number, Page}
 pub use Rattle.types.specs.declared.answers.Answer.{Answer}
@@ -66,10 +66,10 @@ pub use Rattle.types.specs.declared.items.Output.{Output}
 pub use Rattle.types.specs.declared.items.Event.{Event}
 pub use Rattle.types.specs.declared.items.Event.TheVariants.{RunScript, Urlbar, Reload, GoForward, GoBack, CloseCorrupt, EncryptedAnswer, PlainAnswer, DnsResolved}
 pub use Rattle.types.specs.declared.items.Item.{Item}
-pub use Rattle.types.specs.declared.rows.Parent.{Parent}
-pub use Rattle.types.specs.declared.rows.Parent.TheVariants.{Top, Under}
-pub use Rattle.types.specs.declared.rows.Opener.{Opener}
-pub use Rattle.types.specs.declared.rows.Opener.TheVariants.{Nobody, OpenedBy}
+pub use Rattle.types.specs.Perhaps.{Parent}
+pub use Rattle.std.specs.Prelude.{None as Top, Some as Under}
+pub use Rattle.types.specs.Perhaps.{Opener}
+pub use Rattle.std.specs.Prelude.{None as Nobody, Some as OpenedBy}
 pub use Rattle.types.specs.declared.rows.Window.{Window}
 pub use Rattle.types.specs.declared.rows.Document.{Document}
 pub use Rattle.types.specs.declared.rows.HostCookie.{HostCookie}

@@ -1,7 +1,7 @@
 -- How a step is written: a small program that looks at the browser by a fixed list of questions, puts and drops rows of one table at a time,
 -- changes rows in place (their keys stay), takes fresh numbers, refuses, or is done with a message or none. `run` is its only interpreter.
 use Rattle.std.specs.Prelude.{Bool, true, false, cond, ◌&&◌, List, [], ◌∷◌, map, ℕ, eqb, length}
-use Rattle.std.proofs.Math.Option.{Option, none, some}
+use Rattle.std.specs.Prelude.{Option, None as none, Some as some}
 use Rattle.sorted.specs.Table.{find, keep, is_some, at}
 use Rattle.tables.specs.Tables.{Table, windows, documents, cookies, inputs, pending_dns, pending_requests, sts, Row, key_of, cmp, Tables, Edits, update, apply}
 use Rattle.tables.specs.Labels.{Kind, code, Label}

@@ -1,6 +1,6 @@
 -- 000 Algorithm 8, PROCESSRESPONSE.
 use Rattle.std.specs.Prelude.{Bool, true, false, cond, not, ◌&&◌, ◌||◌, List, [], ◌∷◌, map, ℕ, suc, eqb, ltb, leb, length}
-use Rattle.std.proofs.Math.Option.{Option, none, some}
+use Rattle.std.specs.Prelude.{Option, None as none, Some as some}
 use Rattle.sorted.specs.Table.{keep, put, drop}
 use Rattle.tables.specs.Tables.{documents, cookies, inputs, pending_requests, sts, is_secure, Edits}
 use Rattle.tables.specs.Labels.{document}

@@ -1,9 +1,9 @@
 -- The player's run: items one behind the other, a line for each (01 "The player's run").
 use Rattle.std.specs.Prelude.{List, [], ◌∷◌, ◌++◌, ℕ, zero, suc, length, take, drop}
-use Rattle.std.proofs.Math.Option.{Option, none, some}
+use Rattle.std.specs.Prelude.{Option, None as none, Some as some}
 use Rattle.csexp.specs.Text.{text}
 use Rattle.csexp.specs.Term.{decimal, write}
-use Rattle.csexp.specs.declared.text.Ending.TheVariants.{Whole, Broken}
+use Rattle.std.specs.Prelude.{Some as Whole, None as Broken}
 use Rattle.csexp.specs.Limits.{item_bytes, item_levels, ending_of}
 use Rattle.shapes.specs.Texts.{Taken, unread, item, item_in}
 use Rattle.shapes.specs.Events.{Message, event_of}

@@ -1,7 +1,7 @@
 -- 000 Algorithms 1, 2 and 7: GETNAVIGABLEWINDOW, GETWINDOW and RUNSCRIPT with each of its commands.
 -- Where a line of 000 stops without output, nothing has changed (2.6.3). So those lines stand first in each command, before what the step stores (`storing`).
 use Rattle.std.specs.Prelude.{Bool, true, false, cond, not, ◌||◌, List, [], ◌∷◌, map, ℕ, suc, eqb}
-use Rattle.std.proofs.Math.Option.{Option, none, some}
+use Rattle.std.specs.Prelude.{Option, None as none, Some as some}
 use Rattle.sorted.specs.Table.{put, drop, sift}
 use Rattle.tables.specs.Tables.{windows, documents, cookies, local_storage, session_storage, inputs, Edits, is_secure}
 use Rattle.tables.specs.Labels.{window}

@@ -1,6 +1,6 @@
 -- 000 Algorithms 3 and 4: CANCELNAV and HTTP_SEND.
 use Rattle.std.specs.Prelude.{Bool, false, cond, not, [], ◌∷◌, map, ℕ}
-use Rattle.std.proofs.Math.Option.{some}
+use Rattle.std.specs.Prelude.{Some as some}
 use Rattle.sorted.specs.Table.{put, sift}
 use Rattle.tables.specs.Tables.{pending_dns, pending_requests}
 use Rattle.tables.specs.Labels.{request, dns}

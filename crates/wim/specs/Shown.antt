@@ -1,6 +1,6 @@
 -- What a script is shown: 000 Definition 35 (Clean) and Algorithm 7, lines 2 to 9; as one term. Identities and secrets are outside (01).
 use Rattle.std.specs.Prelude.{Bool, true, false, cond, not, ◌&&◌, List, ℕ, zero, suc}
-use Rattle.std.proofs.Math.Option.{Option, none, some}
+use Rattle.std.specs.Prelude.{Option, None as none, Some as some}
 use Rattle.csexp.specs.Text.{text}
 use Rattle.csexp.specs.Term.{Term, atom, list, Terms, nil, cons}
 use Rattle.csexp.specs.Encode.{number_term, optional_term, each, labelled}

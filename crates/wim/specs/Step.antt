@@ -1,6 +1,6 @@
 -- A step: what the program says, then the refusals that are judged of every step alike (01 "Refusal numbers").
 use Rattle.std.specs.Prelude.{Bool, true, false, cond, ◌&&◌, List, [], ◌∷◌, ℕ, leb, eqb, length}
-use Rattle.std.proofs.Math.Option.{Option}
+use Rattle.std.specs.Prelude.{Option}
 use Rattle.types.specs.declared.refusals.Verdict.{Verdict}
 use Rattle.types.specs.declared.refusals.Verdict.TheVariants.{Accepted, Refused}
 use Rattle.tables.specs.Tables.{Table, cap, Tables, no_rows}

@@ -1,7 +1,7 @@
 -- Windows and the documents that hold them: what is reached, what stands above, what stands under (000 Definitions 29 to 31 and 34).
 -- Parents are followed upward, at most 32 steps (01 "What a step does").
 use Rattle.std.specs.Prelude.{Bool, false, cond, ◌||◌, List, map, ℕ, zero, suc}
-use Rattle.std.proofs.Math.Option.{Option, none, some}
+use Rattle.std.specs.Prelude.{Option, None as none, Some as some}
 use Rattle.sorted.specs.Table.{find, keep, is_some, at}
 use Rattle.tables.specs.Tables.{windows, key_of, cmp}
 use Rattle.tables.specs.Rows.{same_window, same_document, one_of, origin_of, same_origin}

@@ -1,6 +1,6 @@
 -- The step on text: an item's text, a browser, a buffer and a place in it give a refusal, or the browser, a count of bytes and the buffer.
 use Rattle.std.specs.Prelude.{cond, List, ◌++◌, ℕ, ◌+◌, leb, length, take, drop}
-use Rattle.std.proofs.Math.Option.{Option, none, some}
+use Rattle.std.specs.Prelude.{Option, None as none, Some as some}
 use Rattle.csexp.specs.Term.{write}
 use Rattle.shapes.specs.Texts.{Taken, unread, item, item_in}
 use Rattle.shapes.specs.Events.{Message, event_of}

@@ -6,7 +6,7 @@ ghost use Rattle.layouts.specs.Rows.{window_of};
 
 use memory::Memory;
 use types::WindowNumber;
-use types::rows::{Opener, Parent, Window};
+use types::rows::Window;
 
 // How many rows there is room for.
 pub const WINDOWS: usize = 32;
@@ -24,8 +24,8 @@ pub fn blank() -> Window
 {
     Window {
         number: WindowNumber(0),
-        parent: Parent::Top,
-        opener: Opener::Nobody,
+        parent: None,
+        opener: None,
     }
 }
 

@@ -1,7 +1,7 @@
 -- The loop that reads a method: what the rows from i on say, all rows say.
 use mathlib.Core.Path.{◌≡◌, refl, sym, ap, subst, ◌∙◌}
 use mathlib.Core.List.{List, []}
-use mathlib.Core.Option.{none}
+use Rattle.std.specs.Prelude.{None as none}
 use Prim.Native.Nat.{ℕ, zero, suc, ◌+◌, ◌-◌, ◌≤◌, ◌<◌}
 use native.Mathlib.Numerals.{add-one}
 use native.Mathlib.Omega.{arith}

@@ -1,7 +1,7 @@
 -- An event has at most 4,096 bytes (01 "Numbers, names, sizes"): at most 2,722, with 13 bytes for every number. The numbers below are sums
 -- that antt checks by computing.
 use mathlib.Core.Bool.{Bool, true, false, cond}
-use mathlib.Core.Option.{Option, none, some}
+use Rattle.std.specs.Prelude.{Option, None as none, Some as some}
 use Prim.Native.Nat.{◌*◌, ◌≤◌}
 use native.Mathlib.Omega.{arith}
 use lib.ListN.{length}

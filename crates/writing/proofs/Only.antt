@@ -3,7 +3,7 @@
 use mathlib.Core.Path.{◌≡◌, refl, sym, ap, subst, ◌∙◌}
 use mathlib.Core.Bool.{Bool, true, false, cond}
 use mathlib.Core.List.{List, [], ◌∷◌, append-nil}
-use mathlib.Core.Option.{none, some}
+use Rattle.std.specs.Prelude.{None as none, Some as some}
 use mathlib.Core.Logic.{◌↔◌}
 use Prim.Native.Nat.{ℕ, ◌≤◌}
 use native.Mathlib.Omega.{arith}

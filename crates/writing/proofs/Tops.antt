@@ -6,15 +6,15 @@
 use mathlib.Core.Path.{◌≡◌, refl, sym, ◌∙◌}
 use mathlib.Core.Bool.{true}
 use mathlib.Core.List.{List, []}
-use mathlib.Core.Option.{Option, none, some}
+use Rattle.std.specs.Prelude.{Option, None as none, Some as some}
 use Prim.Native.Nat.{ℕ, ◌+◌, ◌≤◌, ◌<◌}
 use native.Mathlib.Omega.{arith}
 use lib.ListN.{length}
 use lib.Dec.{leb}
 use borrow.Author.Tests.{le-leb}
 use Rattle.csexp.specs.Term.{write}
-use Rattle.csexp.specs.declared.write.Written.{Written}
-use Rattle.csexp.specs.declared.write.Written.TheVariants.{Bytes}
+use Rattle.csexp.specs.Sent.{Written}
+use Rattle.std.specs.Prelude.{Some as Bytes}
 use Rattle.csexp.specs.Puts.{over, Puts}
 use Rattle.csexp.specs.Sent.{Sent}
 use Rattle.shapes.specs.Events.{Message, resolve, unsealed, sealed, event_of, event_text}

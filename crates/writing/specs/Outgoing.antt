@@ -1,6 +1,6 @@
 -- Events that go out, read off terms: the mirror of how they are written (shapes' Events).
 use Rattle.std.specs.Prelude.{cond, List, [], ◌∷◌, ℕ, eqb}
-use Rattle.std.proofs.Math.Option.{Option, none}
+use Rattle.std.specs.Prelude.{Option, None as none}
 use Rattle.csexp.specs.Text.{text}
 use Rattle.csexp.specs.Term.{Term}
 use Rattle.csexp.specs.Read.{Got, no, got, read}

@@ -1,5 +1,5 @@
 -- The numbers of a message have at most 32 bits, and its cookies are at most 64, as in every value that the code can hold: then its text is short.
-use Rattle.std.proofs.Math.Option.{Option, none, some}
+use Rattle.std.specs.Prelude.{Option, None as none, Some as some}
 use Rattle.std.specs.Prelude.{ℕ, ◌≤◌, length}
 use Rattle.sorted.specs.Table.{All}
 use Rattle.types.specs.Lists.{header_pairs}

@@ -1,10 +1,10 @@
 -- What the writer of events leaves in the buffer that it is given, and what it answers. 01: "the event is written from the given place onward
 -- and bytes before and after it stay", "A step without a message writes none", "An outgoing event has at most 4,096 bytes".
 use Rattle.std.specs.Prelude.{◌≡◌, List, ℕ, ◌≤◌, length}
-use Rattle.std.proofs.Math.Option.{Option, none, some}
+use Rattle.std.specs.Prelude.{Option, None as none, Some as some}
 use Rattle.csexp.specs.Term.{write}
-use Rattle.csexp.specs.declared.write.Written.{Written}
-use Rattle.csexp.specs.declared.write.Written.TheVariants.{Bytes}
+use Rattle.csexp.specs.Sent.{Written}
+use Rattle.std.specs.Prelude.{Some as Bytes}
 use Rattle.csexp.specs.Sent.{answer, left}
 use Rattle.shapes.specs.Events.{Message, event_of, event_text}
 

@@ -20,8 +20,8 @@ pub fn write_fragment(out: &mut [u8], at: usize, fragment: Fragment) -> usize
     ensures { Writes (fragment_term fragment) out.old at out.new result }
 {
     match fragment {
-        Fragment::Absent => empty_list(out, at),
-        Fragment::Named(n) => number(out, at, n),
+        None => empty_list(out, at),
+        Some(n) => number(out, at, n),
     }
 }
 

@@ -51,8 +51,8 @@ pub fn referer_items(out: &mut [u8], at: usize, referrer: Referrer) -> usize
     ensures { Items (referer_header referrer) out.old at out.new result }
 {
     match referrer {
-        Referrer::Unknown => at,
-        Referrer::Known(url) => write_referer(out, at, url),
+        None => at,
+        Some(url) => write_referer(out, at, url),
     }
 }
 

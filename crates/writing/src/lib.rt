@@ -11,7 +11,6 @@ mod events; // questions, and what goes out as a whole
 ghost use Rattle.shapes.specs.Events.{message_of};
 ghost use Rattle.writing.specs.Wrote.{Wrote, Long};
 
-use csexp::write::Written;
 use types::{Request, Sent};
 
 // How many bytes go out: at most 4,096, and 0 for a step without a message. A run over a slice of one byte counts them.
@@ -24,20 +23,20 @@ pub fn length_of(sent: Sent, request: Request) -> usize
 
 // What goes out stands in the buffer from `place` on; where it has no room between there and the end, the buffer is as it was. A step
 // without a message writes none, and its place is not looked at.
-pub fn write_event(out: &mut [u8], place: usize, sent: Sent, request: Request) -> Written
+pub fn write_event(out: &mut [u8], place: usize, sent: Sent, request: Request) -> Option<usize>
     ensures { Wrote (message_of sent request) out.old place out.new result }
 {
     let n = length_of(sent, request);
     if n == 0 {
-        return Written::Bytes(0);
+        return Some(0);
     }
     if place <= out.len() {
         if n <= out.len() - place {
             let end = place + n;
             // 01 "bytes before and after it stay": the writer is lent the middle part of the output buffer, mutable.
             events::write_sent(&mut out[place..end], 0, sent, request);
-            return Written::Bytes(n);
+            return Some(n);
         }
     }
-    Written::NoRoom
+    None
 }

@@ -13,7 +13,7 @@ use borrow.Author.Tests.{le-leb, lt-leb}
 use borrow.Rule.Slice.PartMut.{put_mid}
 use Rattle.csexp.specs.Puts.{top, Puts}
 use Rattle.csexp.specs.Sent.{Sent}
-use Rattle.csexp.specs.declared.write.Written.TheVariants.{Bytes, NoRoom}
+use Rattle.std.specs.Prelude.{Some as Bytes, None as NoRoom}
 use Rattle.csexp.proofs.write.Over.{over-all}
 
 module _ {bs s none none₂ : List ℕ} {n : ℕ} (place : ℕ) (count : Puts bs none 0 none₂ n) (small : length s < top) where

@@ -11,17 +11,17 @@ returns c = exhibits_closed _ _ _ _ (sym c.before.is_closed.ensures ∙ c.if-is_
 returns-2 : tie.Need-returns-in-Lacks
 returns-2 c = exhibits_lacking _ _ _ _ _ (sym c.before.before.before.is_closed.ensures ∙ c.before.before.if-is_closed.false) (sym c.in-Lacks.is ∙ c.before.displayed-found.ensures)
 
-returns-3 : tie.Need-returns-in-Bytes
+returns-3 : tie.Need-returns-in-Some
 returns-3 c =
     let looked = c.before.before.before.before.before in
     exhibits_there _ _ _ _ _ _ (sym looked.before.before.before.is_closed.ensures ∙ looked.before.before.if-is_closed.false) (sym looked.in-Shows.is ∙ looked.before.displayed-found.ensures)
-    (rw c.in-Bytes.is at c.before.before.before.put_exhibit-written.ensures)
+    (rw c.in-Some.is at c.before.before.before.put_exhibit-written.ensures)
 
-returns-4 : tie.Need-returns-in-NoRoom
+returns-4 : tie.Need-returns-in-None
 returns-4 c =
     let looked = c.before.before.before.before.before in
     exhibits_crowded _ _ _ _ _ _ (sym looked.before.before.before.is_closed.ensures ∙ looked.before.before.if-is_closed.false) (sym looked.in-Shows.is ∙ looked.before.displayed-found.ensures)
-    (rw c.in-NoRoom.is at c.before.before.before.put_exhibit-written.ensures)
+    (rw c.in-None.is at c.before.before.before.put_exhibit-written.ensures)
 
 pub show_spec : {M : Type 1} → statement M
 show_spec =

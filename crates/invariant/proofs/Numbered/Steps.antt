@@ -2,7 +2,7 @@
 use mathlib.Core.Path.{◌≡◌, refl}
 use mathlib.Core.Bool.{true}
 use mathlib.Core.List.{List}
-use mathlib.Core.Option.{Option, none}
+use Rattle.std.specs.Prelude.{Option, None as none}
 use native.Mathlib.Omega.{arith}
 use Rattle.sorted.specs.Table.{Sorted}
 use Rattle.tables.specs.Tables.{Table, windows, documents, cookies, session_storage, inputs, pending_dns, pending_requests, key_of, cmp, Tables, no_rows}

@@ -2,7 +2,7 @@
 use mathlib.Core.Path.{◌≡◌, ◌∙◌, ap}
 use mathlib.Core.Logic.{◌⊎◌, inl, inr}
 use mathlib.Core.List.{List}
-use mathlib.Core.Option.{some}
+use Rattle.std.specs.Prelude.{Some as some}
 use Prim.Native.Nat.{ℕ, suc, ◌≤◌}
 use native.Mathlib.Omega.{arith}
 use lib.ListN.{length}

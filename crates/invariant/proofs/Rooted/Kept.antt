@@ -1,7 +1,7 @@
 -- Every event keeps the tables standing, so every accepted step keeps them rooted.
 use mathlib.Core.Path.{◌≡◌, sym, subst₃}
 use mathlib.Core.List.{List}
-use mathlib.Core.Option.{Option}
+use Rattle.std.specs.Prelude.{Option}
 use lib.Dec.{eqb}
 use Rattle.sorted.proofs.Member.{keep-none}
 use Rattle.tables.specs.Tables.{windows, documents, inputs, Tables, no_rows}

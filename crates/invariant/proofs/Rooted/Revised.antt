@@ -3,7 +3,7 @@ use mathlib.Core.Path.{◌≡◌, refl, sym, ◌∙◌, ap}
 use mathlib.Core.Logic.{inl, inr}
 use mathlib.Core.Bool.{Bool, true, false, cond}
 use mathlib.Core.List.{List, map}
-use mathlib.Core.Option.{some}
+use Rattle.std.specs.Prelude.{Some as some}
 use Prim.Native.Nat.{suc}
 use Rattle.sorted.specs.Table.{In}
 use Rattle.sorted.proofs.Revise.{revised, in_map, map_in, find_map}

@@ -36,6 +36,6 @@ pub +follows_within_spec : {M : Type 1} → statement M
     (λ c. search rules)
     (λ c. omega arith)
     (λ c κs. (omega arith, tt))
-    (λ c. follows-opener _ _ _ _ _ c.before.before.before.before.before.before.if-n-eq0.false c.before.before.before.before.before.is_reached.ensures c.before.before.before.before.if-is_reached.true c.before.before.before.navigable_directly.ensures Nobody c.before.before.if-navigable_directly.false (sym c.in-Nobody.is ∙ c.before.opener_of-p.ensures) refl)
-    (λ c. follows-opener _ _ _ _ _ c.before.before.before.before.before.before.before.if-n-eq0.false c.before.before.before.before.before.before.is_reached.ensures c.before.before.before.before.before.if-is_reached.true c.before.before.before.before.navigable_directly.ensures (OpenedBy _) c.before.before.before.if-navigable_directly.false (sym c.before.in-OpenedBy.is ∙ c.before.before.opener_of-p.ensures) c.follows_within.ensures)
+    (λ c. follows-opener _ _ _ _ _ c.before.before.before.before.before.before.if-n-eq0.false c.before.before.before.before.before.is_reached.ensures c.before.before.before.before.if-is_reached.true c.before.before.before.navigable_directly.ensures Nobody c.before.before.if-navigable_directly.false (sym c.in-None.is ∙ c.before.opener_of-p.ensures) refl)
+    (λ c. follows-opener _ _ _ _ _ c.before.before.before.before.before.before.before.if-n-eq0.false c.before.before.before.before.before.before.is_reached.ensures c.before.before.before.before.before.if-is_reached.true c.before.before.before.before.navigable_directly.ensures (OpenedBy _) c.before.before.before.if-navigable_directly.false (sym c.before.in-Some.is ∙ c.before.before.opener_of-p.ensures) c.follows_within.ensures)
     (λ c. follows_unreached _ _ _ _ _ c.before.before.if-n-eq0.false c.before.is_reached.ensures c.if-is_reached.false)

@@ -1,7 +1,7 @@
 -- What the programs without a command, and of SETSCRIPT and SETSCRIPTSTATE, come to, on any tables. No code stands here.
 use mathlib.Core.Path.{◌≡◌, refl, sym, ap}
 use mathlib.Core.List.{List, [], map}
-use mathlib.Core.Option.{none}
+use Rattle.std.specs.Prelude.{None as none}
 use Rattle.types.specs.declared.WindowNumber.{WindowNumber}
 use Rattle.types.specs.declared.rows.Document.{Document}
 use Rattle.tables.specs.Tables.{windows, documents, Tables, update}

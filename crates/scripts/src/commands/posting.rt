@@ -1,6 +1,6 @@
 // A message for the script of another window: 000 A7:83 to 87, POSTMESSAGE.
 ghost use Rattle.std.specs.Prelude.{◌≡◌, [], ◌∷◌};
-ghost use Rattle.std.proofs.Math.Option.{none};
+ghost use Rattle.std.specs.Prelude.{None as none};
 ghost use Rattle.types.specs.declared.rows.News.TheVariants.{Posted};
 ghost use Rattle.sorted.specs.Table.{put};
 ghost use Rattle.tables.specs.Tables.{inputs};
@@ -27,8 +27,8 @@ fn is_for(to: Addressee, d: Document) -> bool
     ensures { result ≡ is_for to d }
 {
     match to {
-        Addressee::Anyone => true,
-        Addressee::Only(o) => {
+        None => true,
+        Some(o) => {
             let p = walks::origin_of(d);
             labels::same_origin(p, o)
         }

@@ -1,5 +1,5 @@
 // What a script does to its own browser (000 A7:52 to 59): nothing beyond what every step stores, or the script, or a script's state, of a document is set.
-ghost use Rattle.std.proofs.Math.Option.{none};
+ghost use Rattle.std.specs.Prelude.{None as none};
 ghost use Rattle.tables.specs.Tables.{documents};
 ghost use Rattle.tables.specs.Rows.{with_state, with_script};
 ghost use Rattle.wim.specs.Program.{revise, done};

@@ -8,5 +8,5 @@ above_parent_spec = tie.close (tie.spec
     (λ c. search rules)
     (λ c. search rules)
     (λ c κs. tt)
-    (λ c. rw c.in-Top.is)
-    (λ c. rw c.before.in-Under.is c.holder.ensures))
+    (λ c. rw c.in-None.is)
+    (λ c. rw c.before.in-Some.is c.holder.ensures))

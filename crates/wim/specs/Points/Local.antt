@@ -1,7 +1,7 @@
 -- Every kind of event over the small browser, with what 01 "Local steps, for demand 3" says of it: is it local, under which window it stands, its hosts, and
 -- the numbers that it names. Demand 3 would say less if fewer kinds were local, or if a step had more hosts or names.
 use Rattle.std.specs.Prelude.{Bool, true, false, List, [], ◌∷◌, map, ℕ}
-use Rattle.std.proofs.Math.Option.{Option, none, some}
+use Rattle.std.specs.Prelude.{Option, None as none, Some as some}
 use Rattle.tables.specs.Labels.{window, request, dns, key, Label}
 use Rattle.wim.specs.Nouns.{WindowNumber, Host, Get, Unmatched, NewWindow, Existing, Itself, Within, Anyone, Nothing, Href, Iframe, Form, SetScript, SetScriptState, XmlHttpRequest, Back, Forward, Close, PostMessage, Nowhere, To, Number, Event, Urlbar, Reload, GoForward, GoBack, CloseCorrupt, EncryptedAnswer, PlainAnswer, DnsResolved}
 use Rattle.wim.specs.LocalSteps.{is_local, stands, hosts, names}

@@ -7,4 +7,4 @@ pub hangs_under_spec : {M : Type 1} → statement M
 hangs_under_spec =
     tie.close
     (tie.spec (λ c. search rules) (λ c. search rules) (λ c. search rules) (λ c. search rules) (λ c. search rules) (λ c. search rules) (λ c. search rules) (λ c. search rules) (λ c. search rules)
-    (λ c. rw (c.before.before.before.in-Under.is, c.before.before.in-Under-parent-2.is)))
+    (λ c. rw (c.before.before.before.in-Some.is, c.before.before.in-Some-parent-2.is)))

@@ -3,11 +3,11 @@ use borrow.Author.Rules.{rules}
 use Rattle.exhibit_parts.proofs.values.write_opener.Statement.{statement}
 use Rattle.exhibit_parts.proofs.values.write_opener.Tie as tie
 
-returns : tie.Need-returns-in-Nobody
-returns c = rw c.before.before.before.before.in-Nobody.is c.before.before.empty_list.ensures
+returns : tie.Need-returns-in-None
+returns c = rw c.before.before.before.before.in-None.is c.before.before.empty_list.ensures
 
-returns-2 : tie.Need-returns-in-OpenedBy
-returns-2 c = rw c.before.before.before.before.before.before.in-OpenedBy.is c.before.before.labelled.ensures
+returns-2 : tie.Need-returns-in-Some
+returns-2 c = rw c.before.before.before.before.before.before.in-Some.is c.before.before.labelled.ensures
 
 pub write_opener_spec : {M : Type 1} → statement M
 write_opener_spec =

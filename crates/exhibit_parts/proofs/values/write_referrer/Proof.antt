@@ -3,11 +3,11 @@ use borrow.Author.Rules.{rules}
 use Rattle.exhibit_parts.proofs.values.write_referrer.Statement.{statement}
 use Rattle.exhibit_parts.proofs.values.write_referrer.Tie as tie
 
-returns : tie.Need-returns-in-Unknown
-returns c = rw c.before.before.before.before.in-Unknown.is c.before.before.empty_list.ensures
+returns : tie.Need-returns-in-None
+returns c = rw c.before.before.before.before.in-None.is c.before.before.empty_list.ensures
 
-returns-2 : tie.Need-returns-in-Known
-returns-2 c = rw c.before.before.before.before.in-Known.is c.before.before.write_url.ensures
+returns-2 : tie.Need-returns-in-Some
+returns-2 c = rw c.before.before.before.before.in-Some.is c.before.before.write_url.ensures
 
 pub write_referrer_spec : {M : Type 1} → statement M
 write_referrer_spec =

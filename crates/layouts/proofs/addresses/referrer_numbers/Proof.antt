@@ -17,4 +17,4 @@ referrer_numbers_spec = tie.close (tie.spec
     (λ c. search rules)
     (λ c. search rules)
     (λ c. search rules)
-    (λ c. ap Known c.url_numbers-c.ensures ∙ sym c.before.in-Known.is))
+    (λ c. ap Known c.url_numbers-c.ensures ∙ sym c.before.in-Some.is))

@@ -9,4 +9,4 @@ parent_numbers_spec = tie.close (tie.spec
     (λ c. search rules)
     (λ c. search rules)
     (λ c. search rules)
-    (λ c. sym c.in-Under.is))
+    (λ c. sym c.in-Some.is))

@@ -9,4 +9,4 @@ seal_numbers_spec = tie.close (tie.spec
     (λ c. search rules)
     (λ c. search rules)
     (λ c. search rules)
-    (λ c. sym c.in-Keyed.is))
+    (λ c. sym c.in-Some.is))

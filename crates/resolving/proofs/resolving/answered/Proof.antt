@@ -1,6 +1,6 @@
 -- The host is the one that was asked for, or another.
 use borrow.Author.Tests.{eq-eqb, ne_eqb}
-use mathlib.Core.Option.{some}
+use Rattle.std.specs.Prelude.{Some as some}
 use Rattle.wim.specs.Main.{go_out, resolved}
 use Rattle.wim.specs.Step.{fresh_labels}
 use Rattle.browser.specs.View.{view}

@@ -1,6 +1,6 @@
 -- As it stands, with no number; or 5.
 use Rattle.types.specs.declared.Protocol.TheVariants.{Plain}
-use Rattle.types.specs.declared.Seal.TheVariants.{Keyless}
+use Rattle.std.specs.Prelude.{None as Keyless}
 use Rattle.wim.specs.Main.{go_out}
 use Rattle.browser.specs.View.{view}
 use Rattle.stepping.specs.Wanted.{wants_nothing}

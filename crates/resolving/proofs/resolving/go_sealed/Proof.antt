@@ -1,7 +1,7 @@
 -- Sealed with the key that is brought; or 5.
 use mathlib.Core.Path.{sym, ◌∙◌}
 use Rattle.types.specs.declared.Protocol.TheVariants.{Secure}
-use Rattle.types.specs.declared.Seal.TheVariants.{Keyed}
+use Rattle.std.specs.Prelude.{Some as Keyed}
 use Rattle.wim.specs.Main.{go_out}
 use Rattle.browser.specs.View.{view}
 use Rattle.stepping.specs.Wanted.{wants_key}

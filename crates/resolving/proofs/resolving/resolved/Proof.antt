@@ -1,5 +1,5 @@
 -- The question is found by its number, or not.
-use mathlib.Core.Option.{some}
+use Rattle.std.specs.Prelude.{Some as some}
 use Rattle.wim.specs.Program.{ask, question}
 use Rattle.wim.specs.Main.{resolved}
 use Rattle.wim.specs.Step.{fresh_labels}

@@ -1,5 +1,5 @@
 -- A request waits with this key, or 3.
-use mathlib.Core.Option.{none, some}
+use Rattle.std.specs.Prelude.{None as none, Some as some}
 use Rattle.types.specs.Lists.{cookies_in}
 use Rattle.wim.specs.Program.{ask, keyed, observed, run}
 use Rattle.wim.specs.Step.{fresh_labels}

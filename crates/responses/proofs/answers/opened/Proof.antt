@@ -1,6 +1,6 @@
 -- The answer carries the number of the request, or 3.
 use mathlib.Core.Bool.{true, false}
-use mathlib.Core.Option.{some}
+use Rattle.std.specs.Prelude.{Some as some}
 use borrow.Author.Tests.{eq-eqb, ne_eqb}
 use Rattle.types.specs.Lists.{cookies_in}
 use Rattle.wim.specs.Program.{run}

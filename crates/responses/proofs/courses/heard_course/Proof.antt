@@ -1,5 +1,5 @@
 -- The document listens, or none does.
-use mathlib.Core.Option.{none, some}
+use Rattle.std.specs.Prelude.{None as none, Some as some}
 use Rattle.browser.specs.View.{view}
 use Rattle.walks.proofs.Looked.{looked_yes, looked-no}
 use Rattle.responses.proofs.Deciding.{decides_heard, decides_input}

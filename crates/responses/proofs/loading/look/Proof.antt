@@ -1,7 +1,7 @@
 -- By what the calls ensure.
 use mathlib.Core.Path.{◌∙◌, ap}
 use mathlib.Core.List.{map}
-use mathlib.Core.Option.{Option}
+use Rattle.std.specs.Prelude.{Option}
 use Prim.Native.Nat.{suc}
 use lib.ListN.{length}
 use Rattle.types.specs.declared.rows.Document.{Document}

@@ -1,7 +1,7 @@
 -- HTTP_SEND goes on from the memory as it stands; or 5.
 use mathlib.Core.Path.{sym, ◌∙◌, ap}
 use Rattle.types.specs.declared.Reference.TheVariants.{Req}
-use Rattle.types.specs.declared.Referrer.TheVariants.{Unknown}
+use Rattle.std.specs.Prelude.{None as Unknown}
 use Rattle.types.specs.declared.Sending.{Sending}
 use Rattle.wim.specs.Program.{run}
 use Rattle.wim.specs.Sending.{send}

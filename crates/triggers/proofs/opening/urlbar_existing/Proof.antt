@@ -1,10 +1,10 @@
 -- The window is a top-level one or not, and shows something or not.
 use mathlib.Core.Path.{refl, sym, ◌∙◌}
 use mathlib.Core.Bool.{true, false}
-use mathlib.Core.Option.{none, some}
+use Rattle.std.specs.Prelude.{None as none, Some as some}
 use Rattle.types.specs.declared.commands.Target.TheVariants.{Existing}
 use Rattle.types.specs.declared.Reference.TheVariants.{Req}
-use Rattle.types.specs.declared.Referrer.TheVariants.{Unknown}
+use Rattle.std.specs.Prelude.{None as Unknown}
 use Rattle.tables.specs.Tables.{documents}
 use Rattle.wim.specs.Walks.{active_document}
 use Rattle.wim.specs.Sending.{send}

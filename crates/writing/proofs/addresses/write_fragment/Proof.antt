@@ -3,11 +3,11 @@ use borrow.Author.Rules.{rules}
 use Rattle.writing.proofs.addresses.write_fragment.Statement.{statement}
 use Rattle.writing.proofs.addresses.write_fragment.Tie as tie
 
-returns : tie.Need-returns-in-Absent
-returns c = rw c.before.before.before.before.in-Absent.is c.before.before.empty_list.ensures
+returns : tie.Need-returns-in-None
+returns c = rw c.before.before.before.before.in-None.is c.before.before.empty_list.ensures
 
-returns-2 : tie.Need-returns-in-Named
-returns-2 c = rw c.before.before.before.before.in-Named.is c.before.before.number.ensures
+returns-2 : tie.Need-returns-in-Some
+returns-2 c = rw c.before.before.before.before.in-Some.is c.before.before.number.ensures
 
 pub write_fragment_spec : {M : Type 1} → statement M
 write_fragment_spec =

@@ -5,11 +5,11 @@ use Rattle.csexp.proofs.write.Steps.{absent}
 use Rattle.writing.proofs.headers.referer_items.Statement.{statement}
 use Rattle.writing.proofs.headers.referer_items.Tie as tie
 
-returns : tie.Need-returns-in-Unknown
-returns c = rw c.in-Unknown.is (absent _ _ (omega arith))
+returns : tie.Need-returns-in-None
+returns c = rw c.in-None.is (absent _ _ (omega arith))
 
-returns-2 : tie.Need-returns-in-Known
-returns-2 c = rw c.before.before.before.before.in-Known.is c.before.before.write_referer.ensures
+returns-2 : tie.Need-returns-in-Some
+returns-2 c = rw c.before.before.before.before.in-Some.is c.before.before.write_referer.ensures
 
 pub referer_items_spec : {M : Type 1} → statement M
 referer_items_spec =

@@ -1,7 +1,7 @@
 -- What every step stores, and one input.
 use mathlib.Core.Path.{refl, sym}
 use mathlib.Core.List.{[], ◌∷◌}
-use mathlib.Core.Option.{none}
+use Rattle.std.specs.Prelude.{None as none}
 use Rattle.sorted.specs.Table.{put}
 use Rattle.tables.specs.Tables.{inputs}
 use Rattle.wim.specs.Program.{edit, done}

@@ -6,11 +6,11 @@ use Rattle.tables.specs.Rows.{same_origin}
 use Rattle.scripts.proofs.commands.posting.is_for.Statement.{statement}
 use Rattle.scripts.proofs.commands.posting.is_for.Tie as tie
 
-returns : tie.Need-returns-in-Anyone
-returns c = rw c.in-Anyone.is
+returns : tie.Need-returns-in-None
+returns c = rw c.in-None.is
 
-returns-2 : tie.Need-returns-in-Only
-returns-2 c = rw c.before.before.in-Only.is (c.same_origin.ensures ∙ ap (λ (o : Origin). same_origin o c.before.before.in-Only.o) c.before.origin_of-p.ensures)
+returns-2 : tie.Need-returns-in-Some
+returns-2 c = rw c.before.before.in-Some.is (c.same_origin.ensures ∙ ap (λ (o : Origin). same_origin o c.before.before.in-Some.o) c.before.origin_of-p.ensures)
 
 pub is_for_spec : {M : Type 1} → statement M
 is_for_spec = tie.close (tie.spec (λ c. search rules) (λ c. search rules) (λ c κs. tt) (λ c κs. tt) returns returns-2)

@@ -2,7 +2,7 @@
 use mathlib.Core.Path.{sym, ◌∙◌, ap}
 use mathlib.Core.Bool.{Bool, ◌&&◌}
 use mathlib.Core.List.{[], ◌∷◌}
-use mathlib.Core.Option.{none}
+use Rattle.std.specs.Prelude.{None as none}
 use Rattle.sorted.specs.Table.{put, looked}
 use Rattle.tables.specs.Tables.{inputs}
 use Rattle.wim.specs.Program.{edit, done}

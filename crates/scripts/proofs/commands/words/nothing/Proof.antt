@@ -1,5 +1,5 @@
 -- What every step stores.
-use mathlib.Core.Option.{none}
+use Rattle.std.specs.Prelude.{None as none}
 use Rattle.wim.specs.Program.{done}
 use Rattle.browser.specs.View.{view}
 use Rattle.stepping.proofs.Ways.{unfresh, silently}

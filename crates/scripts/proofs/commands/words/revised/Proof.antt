@@ -1,6 +1,6 @@
 -- What every step stores, and documents are changed.
 use mathlib.Core.Path.{refl}
-use mathlib.Core.Option.{none}
+use Rattle.std.specs.Prelude.{None as none}
 use Rattle.tables.specs.Tables.{documents}
 use Rattle.wim.specs.Program.{revise, done}
 use Rattle.browser.specs.View.{view}

@@ -1,5 +1,5 @@
 -- GETWINDOW, and that document is changed.
-use mathlib.Core.Option.{none}
+use Rattle.std.specs.Prelude.{None as none}
 use Rattle.tables.specs.Tables.{documents}
 use Rattle.tables.specs.Rows.{with_script, changing}
 use Rattle.wim.specs.Program.{revise, done}
