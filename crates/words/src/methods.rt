@@ -5,7 +5,7 @@ ghost use Rattle.shapes.specs.Words.{method_in};
 ghost use Rattle.shapes.specs.Items.{method_of};
 
 use crate::spellings::spelling_at;
-use csexp::{LOST, word};
+use csexp::{At, word};
 use types::Method;
 
 // The method of a row; past the table it is that of the last row.
@@ -26,30 +26,19 @@ fn method_at(i: usize) -> Method
     }
 }
 
-#[derive(Clone, Copy)]
-pub struct MethodAt {
-    pub value: Method,
-    pub next: usize,
-}
-
 // The atom that spells a method.
-pub fn read_method(s: &[u8], at: usize) -> MethodAt
-    ensures { Reads method_of s.now at result.value result.next }
+pub fn read_method(s: &[u8], at: usize) -> Option<At<Method>>
+    ensures { Reads method_of s.now at result }
 {
-    let mut i = 0;
-    while i < 8 {
+    for i in 0..8 {
         let row = spelling_at(i);
-        let bytes = row.bytes;
         let n = row.length;
-        let p = word(s, at, &bytes[..n]);
-        if p <= s.len() {
-            let m = method_at(i);
-            return MethodAt { value: m, next: p };
+        if let Some(next) = word(s, at, &row.bytes[..n]) {
+            return Some(At {
+                value: method_at(i),
+                next,
+            });
         }
-        i += 1;
     }
-    MethodAt {
-        value: Method::Get,
-        next: LOST,
-    }
+    None
 }
