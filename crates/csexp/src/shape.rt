@@ -1,11 +1,19 @@
-// Small lists that the shapes of 01 are full of.
+// Words that stand for a value, and small lists that the shapes of 01 are full of.
 #![tactic(auto, using(crate::proofs::Steps::readers), unfolding(crate::specs::Decode::optional_of, crate::specs::Decode::labelled_of))]
 
-ghost use Rattle.csexp.specs.Decode.{empty_list, optional_of, labelled_of};
+ghost use Rattle.csexp.specs.Decode.{means, empty_list, optional_of, labelled_of};
 ghost use Rattle.csexp.specs.Answers.{Reads, Passes};
 
 use crate::At;
 use crate::leaf::{mark, number, word};
+
+// The word w, which stands for the value v.
+pub fn means<T: Copy>(s: &[u8], at: usize, w: &[u8], v: T) -> Option<At<T>>
+    ensures { Reads (means w.now v) s.now at result }
+{
+    let next = word(s, at, w)?;
+    Some(At { value: v, next })
+}
 
 // The list with nothing in it.
 pub fn empty_list(s: &[u8], at: usize) -> Option<usize>

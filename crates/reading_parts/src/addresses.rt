@@ -5,24 +5,14 @@ ghost use Rattle.csexp.specs.Answers.{Reads};
 ghost use Rattle.shapes.specs.Items.{protocol_of, fragment_of, url_of, origin_of};
 
 use crate::numbers::short_number;
-use csexp::{At, empty_list, mark, number, optional, word};
+use csexp::{At, empty_list, mark, means, number, optional, word};
 use types::{Fragment, Host, Origin, Parameters, Path, Protocol, Url};
 
 // 1:P or 1:S
 pub fn read_protocol(s: &[u8], at: usize) -> Option<At<Protocol>>
     ensures { Reads protocol_of s.now at result }
 {
-    if let Some(next) = word(s, at, b"P") {
-        return Some(At {
-            value: Protocol::Plain,
-            next,
-        });
-    }
-    let next = word(s, at, b"S")?;
-    Some(At {
-        value: Protocol::Secure,
-        next,
-    })
+    means(s, at, b"P", Protocol::Plain).or_else(|| means(s, at, b"S", Protocol::Secure))
 }
 
 // () or a number from 1 on
@@ -32,11 +22,7 @@ pub fn read_fragment(s: &[u8], at: usize) -> Option<At<Fragment>>
     if let Some(next) = empty_list(s, at) {
         return Some(At { value: None, next });
     }
-    let n = number(s, at, 1, u32::MAX)?;
-    Some(At {
-        value: Some(n.value),
-        next: n.next,
-    })
+    Some(number(s, at, 1, u32::MAX)?.map(Some))
 }
 
 // (3:URL protocol host path parameters fragment)

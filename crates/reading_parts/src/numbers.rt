@@ -12,20 +12,12 @@ use types::WindowNumber;
 pub fn short_number(s: &[u8], at: usize, lo: u16, hi: u16) -> Option<At<u16>>
     ensures { Reads (numeral lo hi) s.now at result }
 {
-    let n = number(s, at, u32::from(lo), u32::from(hi))?;
-    Some(At {
-        value: n.value as u16,
-        next: n.next,
-    })
+    Some(number(s, at, u32::from(lo), u32::from(hi))?.map(|n| n as u16))
 }
 
 // (6:window number)
 pub fn read_window(s: &[u8], at: usize) -> Option<At<WindowNumber>>
     ensures { Reads window_of s.now at result }
 {
-    let n = labelled(s, at, b"window", 1, u32::MAX)?;
-    Some(At {
-        value: WindowNumber(n.value),
-        next: n.next,
-    })
+    Some(labelled(s, at, b"window", 1, u32::MAX)?.map(WindowNumber))
 }

@@ -5,7 +5,7 @@ ghost use Rattle.csexp.specs.Answers.{Reads};
 ghost use Rattle.shapes.specs.Items.{target_of, holder_of, matching_of, addressee_of};
 
 use crate::{read_origin, read_window};
-use csexp::{At, empty_list, number, word};
+use csexp::{At, empty_list, means, number};
 use types::Matching;
 use types::commands::{Addressee, Holder, Target};
 
@@ -13,34 +13,19 @@ use types::commands::{Addressee, Holder, Target};
 pub fn read_target(s: &[u8], at: usize) -> Option<At<Target>>
     ensures { Reads target_of s.now at result }
 {
-    if let Some(next) = word(s, at, b"_BLANK") {
-        return Some(At {
-            value: Target::NewWindow,
-            next,
-        });
+    if let Some(blank) = means(s, at, b"_BLANK", Target::NewWindow) {
+        return Some(blank);
     }
-    let w = read_window(s, at)?;
-    Some(At {
-        value: Target::Existing(w.value),
-        next: w.next,
-    })
+    Some(read_window(s, at)?.map(Target::Existing))
 }
 
 // 5:_SELF, or 4:SELF as A7:28 prints it, or a labelled window
 pub fn read_holder(s: &[u8], at: usize) -> Option<At<Holder>>
     ensures { Reads holder_of s.now at result }
 {
-    if let Some(next) = word(s, at, b"_SELF").or_else(|| word(s, at, b"SELF")) {
-        return Some(At {
-            value: Holder::Itself,
-            next,
-        });
-    }
-    let w = read_window(s, at)?;
-    Some(At {
-        value: Holder::Within(w.value),
-        next: w.next,
-    })
+    means(s, at, b"_SELF", Holder::Itself)
+        .or_else(|| means(s, at, b"SELF", Holder::Itself))
+        .or_else(|| Some(read_window(s, at)?.map(Holder::Within)))
 }
 
 // () or a number
@@ -50,11 +35,7 @@ pub fn read_matching(s: &[u8], at: usize) -> Option<At<Matching>>
     if let Some(next) = empty_list(s, at) {
         return Some(At { value: None, next });
     }
-    let n = number(s, at, 0, u32::MAX)?;
-    Some(At {
-        value: Some(n.value),
-        next: n.next,
-    })
+    Some(number(s, at, 0, u32::MAX)?.map(Some))
 }
 
 // () or (host protocol)
@@ -64,9 +45,5 @@ pub fn read_addressee(s: &[u8], at: usize) -> Option<At<Addressee>>
     if let Some(next) = empty_list(s, at) {
         return Some(At { value: None, next });
     }
-    let origin = read_origin(s, at)?;
-    Some(At {
-        value: Some(origin.value),
-        next: origin.next,
-    })
+    Some(read_origin(s, at)?.map(Some))
 }
