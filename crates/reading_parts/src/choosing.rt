@@ -25,26 +25,8 @@ pub fn read_command(s: &[u8], at: usize) -> Option<At<Command>>
         .or_else(|| read_set_script(s, at))
         .or_else(|| read_set_script_state(s, at))
         .or_else(|| read_xhr(s, at))
-        .or_else(|| {
-            let w = read_named(s, at, b"BACK")?;
-            Some(At {
-                value: Command::Back(w.value),
-                next: w.next,
-            })
-        })
-        .or_else(|| {
-            let w = read_named(s, at, b"FORWARD")?;
-            Some(At {
-                value: Command::Forward(w.value),
-                next: w.next,
-            })
-        })
-        .or_else(|| {
-            let w = read_named(s, at, b"CLOSE")?;
-            Some(At {
-                value: Command::Close(w.value),
-                next: w.next,
-            })
-        })
+        .or_else(|| Some(read_named(s, at, b"BACK")?.map(Command::Back)))
+        .or_else(|| Some(read_named(s, at, b"FORWARD")?.map(Command::Forward)))
+        .or_else(|| Some(read_named(s, at, b"CLOSE")?.map(Command::Close)))
         .or_else(|| read_post_message(s, at))
 }
