@@ -149,4 +149,7 @@ module _ (s : List ℕ) (at : ℕ) where
           let j = length-drop at s in
           by (d t) (length s - length r) (omega arith) (omega arith)
 
+-- a list of fields alone; readers of every form
+pub ruleset fields = (opened, passed, closed)
+
 pub ruleset readers = (opened, passed, closed, tried, chosen, mapped, meant, optioned, ranged)

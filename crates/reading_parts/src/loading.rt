@@ -1,5 +1,5 @@
 // The commands that load an address; it "carries its protocol and an optional fragment" (01 "What a step does").
-#![tactic(auto, using(csexp::proofs::Steps::readers))]
+#![tactic(auto, using(csexp::proofs::Steps::fields))]
 
 ghost use Rattle.csexp.specs.Answers.{Reads};
 ghost use Rattle.shapes.specs.Items.{href_of, iframe_of, form_of, xhr_of};

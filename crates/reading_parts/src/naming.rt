@@ -1,5 +1,5 @@
 // The commands that name a window.
-#![tactic(auto, using(csexp::proofs::Steps::readers))]
+#![tactic(auto, using(csexp::proofs::Steps::fields))]
 
 ghost use Rattle.csexp.specs.Answers.{Reads};
 ghost use Rattle.shapes.specs.Items.{set_script_of, set_script_state_of, post_message_of};
