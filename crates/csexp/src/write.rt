@@ -20,6 +20,7 @@ fn byte(out: &mut [u8], at: usize, b: u8) -> usize
 }
 
 // These bytes.
+#[tactic(auto, using(crate::proofs::write::Steps::spelt))]
 fn bytes(out: &mut [u8], at: usize, w: &[u8]) -> usize
     ensures { Puts w.now out.old at out.new result }
 {
@@ -51,6 +52,7 @@ fn width(n: usize) -> usize
 }
 
 // An atom of these bytes.
+#[tactic(auto, using(crate::proofs::write::Steps::spelt))]
 pub fn word(out: &mut [u8], at: usize, w: &[u8]) -> usize
     ensures { Writes (atom w.now) out.old at out.new result }
 {
@@ -60,7 +62,7 @@ pub fn word(out: &mut [u8], at: usize, w: &[u8]) -> usize
 }
 
 // An atom of the decimal digits of n.
-#[tactic(auto, using(crate::proofs::write::Steps::writers), unfolding(crate::specs::Encode::number_term))]
+#[tactic(auto, using(crate::proofs::write::Steps::spelt), unfolding(crate::specs::Encode::number_term))]
 pub fn number(out: &mut [u8], at: usize, n: u32) -> usize
     ensures { Writes (number_term n) out.old at out.new result }
 {

@@ -34,6 +34,9 @@ module _ (x : List ℕ × ℕ) where
   unfolding write
   put_end = refl
 
+  pub put_ended : (ts : Terms) → put (writes ts ++ (41 ∷ [])) x ≡ put (41 ∷ []) (put (writes ts) x)
+  put_ended ts = put_append (writes ts) (41 ∷ []) x
+
   pub put_open : (w : List ℕ) → put (40 ∷ write (atom w)) x ≡ put (write (atom w)) (put (40 ∷ []) x)
   put_open w = put_append (40 ∷ []) (write (atom w)) x
 
@@ -68,8 +71,11 @@ module _ (x : List ℕ × ℕ) where
   unfolding put
   put_no_bytes = refl
 
--- what the proofs of writers go by, `using(csexp::proofs::write::Steps::writers)`: a compound writer needs no proof file
-pub ruleset writers = (put_list, put_first, put_end, put_open, put_atom, put_terms, put_no_terms, put_both, put_spliced, put_byte, put_no_bytes)
+-- what the proofs of compound writers go by, `using(csexp::proofs::write::Steps::writers)`: such a writer needs no proof file
+pub ruleset writers = (put_list, put_first, put_end, put_ended, put_open, put_terms, put_no_terms, put_both, put_spliced)
+
+-- what the writers of bytes and of atoms go by: these laws take a word apart
+pub ruleset spelt = (put_atom, put_byte, put_no_bytes)
 
 -- The same as a law for each step: what the calls ensure makes what the caller ensures.
 pub puts_none : (s : List ℕ) (at : ℕ) → Puts [] s at s at
