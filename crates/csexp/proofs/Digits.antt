@@ -2,7 +2,7 @@
 use mathlib.Core.Path.{◌≡◌, refl, sym, ap, ◌∙◌}
 use mathlib.Core.Bool.{Bool, true, false, cond}
 use mathlib.Core.List.{List, [], ◌∷◌}
-use Rattle.std.specs.Prelude.{Option, None as none, Some as some, option_and_then, slice_get, IfSome}
+use Rattle.std.specs.Prelude.{Option, None as none, Some as some, option_and_then, IfSome}
 use Rattle.std.proofs.lemmas.Option.{slice_get-get_or, slice_get_past}
 use Prim.Native.Nat.{ℕ, suc, ◌+◌, ◌-◌, ◌*◌, ◌≤◌, ◌<◌}
 use native.Mathlib.Numerals.{add-one}

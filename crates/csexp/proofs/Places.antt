@@ -13,9 +13,9 @@ use Rattle.csexp.specs.Term.{Term, atom, list, Terms, nil, cons, write}
 use Rattle.csexp.specs.Read.{Got, no, got, then, number, mark, string, term, read, reads}
 use Rattle.csexp.specs.declared.At.{At}
 use Rattle.csexp.specs.At.{ends, place, behind, term_at, terms_at, string_at, mark_at}
-use Rattle.csexp.specs.Decode.{Decoder, Fields, and_then, inside, one, end, up_to, or_else, perhaps, atom_of, either, maps}
+use Rattle.csexp.specs.Decode.{Decoder, Fields, and_then, inside, one, end, up_to, or_else, perhaps, atom_of}
 use Rattle.std.specs.Option.{option_or}
-use Rattle.csexp.specs.Answers.{found, decode, value_at, fields_at, tried_at}
+use Rattle.csexp.specs.Answers.{found, decode, tried_at}
 use Rattle.csexp.proofs.Terms.{read_sound, write-long, read_step, reads-step}
 
 -- What is left of the text stands behind the position.

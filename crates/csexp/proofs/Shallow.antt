@@ -4,7 +4,7 @@ use mathlib.Core.Bool.{Bool, true, false, cond}
 use mathlib.Core.List.{List}
 use Rattle.std.specs.Prelude.{Option, None as none, Some as some, option_map, option_and_then}
 use Rattle.std.specs.Option.{option_or}
-use Prim.Native.Nat.{ℕ, zero, suc, ◌-◌, ◌≤◌, ◌<◌, max}
+use Prim.Native.Nat.{ℕ, zero, suc, ◌-◌, max}
 use native.Mathlib.Omega.{arith}
 use lib.ListN.{drop}
 use lib.Dec.{leb, eqb, leb-zero, leb-suc-zero, leb-suc-suc}
@@ -13,8 +13,8 @@ use Rattle.sorted.proofs.Never.{never}
 use Rattle.csexp.specs.Term.{Term, atom, list, Terms, nil, cons, levels, levels_in}
 use Rattle.csexp.specs.Read.{Got, no, got, number, mark, string}
 use Rattle.csexp.specs.declared.At.{At}
-use Rattle.csexp.specs.At.{ends, place, behind, term_at, terms_at, string_at, mark_at}
-use Rattle.csexp.specs.Decode.{Decoder, Fields, and_then, inside, one, either, atom_of}
+use Rattle.csexp.specs.At.{ends, place, behind, term_at, string_at, mark_at}
+use Rattle.csexp.specs.Decode.{Decoder, and_then, inside, one, either, atom_of}
 use Rattle.csexp.specs.Answers.{found, decode, value_at, fields_at}
 use Rattle.csexp.specs.Limits.{shallow, shallows}
 use Rattle.csexp.proofs.Terms.{mark_sound}

@@ -8,7 +8,7 @@
 --     full_at · counted                 a list of at most n: no room for more, one more
 --     ranged                            a number atom lies in its range
 --     forward                           what was found ends behind where it starts, within the text
-use mathlib.Core.Path.{◌≡◌, refl, sym, ap, ap₂, fun_ext, ◌∙◌}
+use mathlib.Core.Path.{◌≡◌, refl, ap, ap₂, fun_ext, ◌∙◌}
 use mathlib.Core.Bool.{Bool, true, false, cond}
 use mathlib.Core.List.{List, [], ◌∷◌}
 use Rattle.std.specs.Prelude.{Option, None as none, Some as some, option_map, option_and_then, IfSome}

@@ -1,6 +1,6 @@
 -- What the readers of the code answer: what was found, a value and the position behind it, or nothing. Each answer is what a definition
 -- says of the text, so a position that was found lies within it.
-use Rattle.std.specs.Prelude.{◌≡◌, cond, List, [], ℕ, ◌-◌, ◌≤◌, leb, Option, None as none, Some as some, option_map, option_and_then, slice_get, IfSome}
+use Rattle.std.specs.Prelude.{◌≡◌, cond, List, ℕ, ◌-◌, ◌≤◌, leb, Option, None as none, Some as some, option_map, option_and_then, slice_get, IfSome}
 use denote.Ref.{Bor}
 use Rattle.csexp.specs.Read.{digit}
 use Rattle.csexp.specs.At.{ends, behind, term_at, terms_at, mark_at, number_at, string_at}

@@ -1,5 +1,4 @@
 use Rattle.std.proofs.Common.{arith}
-use Rattle.std.proofs.lemmas.Grind.{common_steps}
 use Rattle.csexp.proofs.Digits.{digits, number_next}
 use Rattle.csexp.proofs.leaf.decimal.Goals as goal
 
