@@ -14,10 +14,8 @@ pub fn read_item(text: &[u8]) -> Result<Item, Refusal>
     if !whole(text, ITEM_BYTES, ITEM_LEVELS) {
         return Err(Refusal::BadText);
     }
-    let i = item_at(text, 0);
-    if i.next == text.len() {
-        Ok(i.value)
-    } else {
-        Err(Refusal::BadShape)
+    match item_at(text, 0) {
+        Some(item) => Ok(item.value),
+        None => Err(Refusal::BadShape),
     }
 }
