@@ -1,34 +1,50 @@
--- The fields of an XMLHTTPREQUEST; what is made of a word and a window's number, by what they are.
-use mathlib.Core.Path.{◌≡◌}
+-- A list of fields, step by step; what is made of a word and a window's number, by what they are.
+use mathlib.Core.Path.{◌≡◌, refl, sym, ap, ◌∙◌}
 use mathlib.Core.List.{List}
-use Rattle.std.specs.Prelude.{option_map, option_and_then}
+use Rattle.std.specs.Prelude.{Option, None as none, Some as some, option_map, option_and_then}
 use Prim.Native.Nat.{ℕ}
 use Rattle.std.proofs.Common.{arith}
-use Rattle.csexp.specs.At.{ends, mark_at}
-use Rattle.csexp.specs.Text.{text}
-use Rattle.csexp.specs.Decode.{one, end, word, optional_of}
-use Rattle.csexp.specs.Answers.{value_at, fields_at}
-use Rattle.csexp.proofs.Steps.{readers, opened}
-use Rattle.shapes.specs.Nouns.{WindowNumber, Command, XmlHttpRequest}
-use Rattle.shapes.specs.Words.{most32}
-use Rattle.shapes.specs.Items.{url_of, method_of, matching_of, xhr_of, naming_of}
+use Rattle.sorted.proofs.Never.{never}
+use Rattle.csexp.specs.declared.At.{At}
+use Rattle.csexp.specs.At.{ends, behind, mark_at}
+use Rattle.csexp.specs.Decode.{Decoder, Fields, inside, one, end, word}
+use Rattle.csexp.specs.Answers.{value_at, fields_at, Reads, Passes, Marks}
+use Rattle.csexp.proofs.Steps.{readers, opened, passed, closed}
+use Rattle.shapes.specs.Nouns.{WindowNumber, Command}
+use Rattle.shapes.specs.Items.{naming_of}
 use Rattle.reading_parts.specs.Named.{named_of}
 
 pub named : (s : List ℕ) (at : ℕ) (w : List ℕ) (c : WindowNumber → Command)
     → value_at (naming_of w c) s at ≡ option_map (λ n. ends (c n.value) n.next) (value_at (named_of w) s at)
 named s at w c = grind (arith, readers)
 
-pub xhr-opened : (s : List ℕ) (at : ℕ)
-    → value_at xhr_of s at
-    ≡ option_and_then
-    (λ p. fields_at
-    (one (word (text "XMLHTTPREQUEST")) λ _.
-    one url_of λ url.
-    one method_of λ method.
-    one (optional_of most32) λ body.
-    one matching_of λ matching.
-    end (XmlHttpRequest url method (record { 0 = body }) matching)) s p)
-    (mark_at 40 s at)
-xhr-opened s at = opened s at _
+-- A list of fields, step by step.
+module _ {A : Type 0} {s : List ℕ} where
+  pub list-opened : (f : Fields A) {at p : ℕ} → Marks 40 s at (some p) → value_at (inside f) s at ≡ fields_at f s p
+  list-opened f {at} m = opened s at f ∙ ap (option_and_then (λ p. fields_at f s p)) (sym m.exactly)
 
-pub ruleset xhr = (xhr-opened)
+  pub field-passed : {B : Type 0} {d : Decoder B} (k : B → Fields A) {p : ℕ} {b : At B} → Reads d s p (some b) → fields_at (one d k) s p ≡ fields_at (k b.value) s b.next
+  field-passed {d = d} k {p} r = passed s p d k ∙ ap (option_and_then (λ a. fields_at (k a.value) s a.next)) (sym r.exactly)
+
+  pub field-missed : {B : Type 0} {d : Decoder B} (k : B → Fields A) {p : ℕ} → Reads d s p none → fields_at (one d k) s p ≡ none
+  field-missed {d = d} k {p} r = passed s p d k ∙ ap (option_and_then (λ a. fields_at (k a.value) s a.next)) (sym r.exactly)
+
+  pub word-passed : (w : List ℕ) (k : Unit {0} → Fields A) {p q : ℕ} → Passes (word w) s p (some q) → fields_at (one (word w) k) s p ≡ fields_at (k tt) s q
+  word-passed w k {p} {q} r = passed s p (word w) k ∙ go (value_at (word w) s p) r.exactly
+    where
+      go : (m : Option (At (Unit {0}))) → some q ≡ behind m → option_and_then (λ a. fields_at (k a.value) s a.next) m ≡ fields_at (k tt) s q
+      go none e = never (cc)
+      go (some a) e = let h : q ≡ a.next = cc in ap (λ (n : ℕ). fields_at (k tt) s n) (sym h)
+
+  pub word-missed : (w : List ℕ) (k : Unit {0} → Fields A) {p : ℕ} → Passes (word w) s p none → fields_at (one (word w) k) s p ≡ none
+  word-missed w k {p} r = passed s p (word w) k ∙ go (value_at (word w) s p) r.exactly
+    where
+      go : (m : Option (At (Unit {0}))) → none ≡ behind m → option_and_then (λ a. fields_at (k a.value) s a.next) m ≡ none
+      go none e = refl
+      go (some a) e = never (cc)
+
+  pub list-closed : {v : A} {p q : ℕ} → Marks 41 s p (some q) → fields_at (end v) s p ≡ some (ends v q)
+  list-closed {v} {p} m = closed s p v ∙ ap (option_map (λ q. ends v q)) (sym m.exactly)
+
+  pub list_open : (v : A) {p : ℕ} → Marks 41 s p none → fields_at (end v) s p ≡ none
+  list_open v {p} m = closed s p v ∙ ap (option_map (λ q. ends v q)) (sym m.exactly)

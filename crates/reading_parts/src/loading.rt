@@ -60,7 +60,6 @@ pub fn read_form(s: &[u8], at: usize) -> Option<At<Command>>
 }
 
 // (14:XMLHTTPREQUEST url method data xhrreference)
-#[tactic(auto, using(csexp::proofs::Steps::fields, crate::proofs::Making::xhr))]
 pub fn read_xhr(s: &[u8], at: usize) -> Option<At<Command>>
     ensures { Reads xhr_of s.now at result }
 {
