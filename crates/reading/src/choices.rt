@@ -85,9 +85,18 @@ fn read_urlbar(s: &[u8], at: usize) -> Option<At<Happening>>
 pub fn read_choices(s: &[u8], at: usize) -> Option<At<Happening>>
     ensures { Reads choices_of s.now at result }
 {
-    read_script(s, at)
-        .or_else(|| read_urlbar(s, at))
-        .or_else(|| Some(read_named(s, at, b"reload")?.map(|w| quietly(Event::Reload(w)))))
-        .or_else(|| Some(read_named(s, at, b"forward")?.map(|w| quietly(Event::GoForward(w)))))
-        .or_else(|| Some(read_named(s, at, b"back")?.map(|w| quietly(Event::GoBack(w)))))
+    if let Some(script) = read_script(s, at) {
+        return Some(script);
+    }
+    if let Some(urlbar) = read_urlbar(s, at) {
+        return Some(urlbar);
+    }
+    if let Some(window) = read_named(s, at, b"reload") {
+        return Some(window.map(|w| quietly(Event::Reload(w))));
+    }
+    if let Some(window) = read_named(s, at, b"forward") {
+        return Some(window.map(|w| quietly(Event::GoForward(w))));
+    }
+    let window = read_named(s, at, b"back")?;
+    Some(window.map(|w| quietly(Event::GoBack(w))))
 }

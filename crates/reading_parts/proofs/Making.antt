@@ -9,7 +9,7 @@ use Rattle.csexp.specs.declared.At.{At}
 use Rattle.csexp.specs.At.{ends, behind, mark_at}
 use Rattle.csexp.specs.Decode.{Decoder, Fields, inside, one, end, word}
 use Rattle.csexp.specs.Answers.{value_at, fields_at, Reads, Passes, Marks}
-use Rattle.csexp.proofs.Steps.{readers, opened, passed, closed}
+use Rattle.csexp.proofs.Steps.{readers, chosen, opened, passed, closed}
 use Rattle.shapes.specs.Nouns.{WindowNumber, Command}
 use Rattle.shapes.specs.Items.{naming_of}
 use Rattle.reading_parts.specs.Named.{named_of}
@@ -48,3 +48,5 @@ module _ {A : Type 0} {s : List ℕ} where
 
   pub list_open : (v : A) {p : ℕ} → Marks 41 s p none → fields_at (end v) s p ≡ none
   list_open v {p} m = closed s p v ∙ ap (option_map (λ q. ends v q)) (sym m.exactly)
+
+pub ruleset choices = (chosen, named)
