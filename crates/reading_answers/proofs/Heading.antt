@@ -27,6 +27,9 @@ once {A} s at b d = go b (term_at s at)
     go false none = refl
     go false (some t) = refl
 
+pub once_free : {A : Type 0} (s : List ℕ) (at : ℕ) {b : Bool} (d : Decoder A) → b ≡ false → value_at (unless b d) s at ≡ value_at d s at
+once_free s at {b} d e = once s at b d ∙ ap (λ (x : Bool). cond x none (value_at d s at)) e
+
 -- the fields that stand behind the headers of h: none, or one header more and those behind it
 pub counted : (s : List ℕ) (p : ℕ) (h : Headers)
     → fields_at (more_headers h) s p ≡ option_or (option_map (λ q. ends h q) (mark_at 41 s p)) (option_and_then (λ a. fields_at (more_headers a.value) s a.next) (value_at (one_header_of h) s p))

@@ -1,6 +1,6 @@
 -- A law for each step: the search stops at its limit here.
 use mathlib.Core.Path.{sym, ◌∙◌}
-use Rattle.reading_parts.proofs.Making.{list-opened, field-passed, field-missed, word-passed, word-missed, list-closed, list_open}
+use Rattle.csexp.proofs.Lists.{list-opened, field-passed, field-missed, word-passed, word-missed, list-closed, list_open}
 use Rattle.reading_parts.proofs.loading.read_xhr.Goals as goal
 
 pub returns-in_err-b : goal.returns-in_err-b
