@@ -72,15 +72,15 @@ module _ (x : List ℕ × ℕ) where
   put_no_bytes = refl
 
 -- what the proofs of compound writers go by, `using(csexp::proofs::write::Steps::writers)`: such a writer needs no proof file
-pub ruleset writers = (put_list, put_first, put_end, put_ended, put_open, put_terms, put_no_terms, put_both, put_spliced)
+pub ruleset writers = (put_list, put_first, put_end, put_ended, put_open, put_terms, put_no_terms, put_both, put_spliced, put_no_bytes)
 
 -- what the writers of bytes and of atoms go by: these laws take a word apart
 pub ruleset spelt = (put_atom, put_byte, put_no_bytes)
 
 -- The same as a law for each step: what the calls ensure makes what the caller ensures.
-pub puts_none : (s : List ℕ) (at : ℕ) → Puts [] s at s at
+pub puts_none : (s : List ℕ) (at : ℕ) → at ≤ top → Puts [] s at s at
 unfolding put
-puts_none s at = record { exactly = refl }
+puts_none s at h = record { exactly = refl }
 
 -- one part behind another
 pub puts_then : {a b s s₁ s₂ : List ℕ} {at p q : ℕ} → Puts a s at s₁ p → Puts b s₁ p s₂ q → Puts (a ++ b) s at s₂ q
@@ -122,7 +122,7 @@ both {ts} {us} u v = record { puts = puts_as (sym (writes-joins ts us)) (puts_th
 -- no term, and one
 pub absent : (s : List ℕ) (at : ℕ) → at ≤ top → Items nil s at s at
 unfolding write
-absent s at h = record { puts = puts_none s at }
+absent s at h = record { puts = puts_none s at h }
 
 pub single : {t : Term} {s s₂ : List ℕ} {at p : ℕ} → Writes t s at s₂ p → Items (cons t nil) s at s₂ p
 unfolding write
