@@ -6,9 +6,9 @@ use Prim.Native.Nat.{ℕ}
 use Rattle.sorted.proofs.Never.{never}
 use Rattle.csexp.specs.declared.At.{At}
 use Rattle.csexp.specs.At.{ends, behind}
-use Rattle.csexp.specs.Decode.{Decoder, Fields, inside, one, end, word}
-use Rattle.csexp.specs.Answers.{value_at, fields_at, Reads, Passes, Marks}
-use Rattle.csexp.proofs.Steps.{opened, passed, closed}
+use Rattle.csexp.specs.Decode.{Decoder, Fields, inside, one, end, perhaps, word}
+use Rattle.csexp.specs.Answers.{value_at, fields_at, Reads, Passes, Marks, Tries}
+use Rattle.csexp.proofs.Steps.{opened, passed, closed, tried}
 
 module _ {A : Type 0} {s : List ℕ} where
   pub list-opened : (f : Fields A) {at p : ℕ} → Marks 40 s at (some p) → value_at (inside f) s at ≡ fields_at f s p
@@ -33,6 +33,9 @@ module _ {A : Type 0} {s : List ℕ} where
       go : (m : Option (At (Unit {0}))) → none ≡ behind m → option_and_then (λ a. fields_at (k a.value) s a.next) m ≡ none
       go none e = refl
       go (some a) e = never (cc)
+
+  pub field-tried : {B C : Type 0} {b : C} {f : B → C} {d : Decoder B} (k : C → Fields A) {p : ℕ} {r : At C} → Tries b f d s p r → fields_at (perhaps b f d k) s p ≡ fields_at (k r.value) s r.next
+  field-tried {b = b} {f} {d} k {p} t = tried s p b f d k ∙ ap (λ (v : At _). fields_at (k v.value) s v.next) (sym t.exactly)
 
   pub list-closed : {v : A} {p q : ℕ} → Marks 41 s p (some q) → fields_at (end v) s p ≡ some (ends v q)
   list-closed {v} {p} m = closed s p v ∙ ap (option_map (λ q. ends v q)) (sym m.exactly)

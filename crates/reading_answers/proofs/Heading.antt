@@ -9,7 +9,7 @@ use Rattle.std.specs.Option.{option_or}
 use Prim.Native.Nat.{ℕ}
 use Rattle.csexp.specs.Term.{Term}
 use Rattle.csexp.specs.declared.At.{At}
-use Rattle.csexp.specs.At.{ends, term_at, terms_at, mark_at}
+use Rattle.csexp.specs.At.{ends, term_at, mark_at}
 use Rattle.csexp.specs.Decode.{Decoder, one}
 use Rattle.csexp.specs.Answers.{decode, value_at, fields_at}
 use Rattle.csexp.proofs.Places.{at_many}

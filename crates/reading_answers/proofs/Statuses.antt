@@ -5,7 +5,7 @@ use mathlib.Core.List.{List}
 use Rattle.std.specs.Prelude.{Option, None as none, Some as some, option_map, option_and_then}
 use Prim.Native.Nat.{ℕ}
 use lib.Dec.{leb}
-use borrow.Author.Tests.{leb-true, leb-false, le-leb, lt-leb}
+use borrow.Author.Tests.{leb-true, le-leb}
 use native.Mathlib.Omega.{arith}
 use Rattle.csexp.specs.Term.{Term, atom, list}
 use Rattle.csexp.specs.Read.{number}

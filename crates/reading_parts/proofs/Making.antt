@@ -1,14 +1,11 @@
 -- What is made of a word and a window's number, by what they are.
-use mathlib.Core.Path.{◌≡◌, refl, sym, ap, ◌∙◌}
+use mathlib.Core.Path.{◌≡◌}
 use mathlib.Core.List.{List}
-use Rattle.std.specs.Prelude.{Option, None as none, Some as some, option_map, option_and_then}
+use Rattle.std.specs.Prelude.{option_map}
 use Prim.Native.Nat.{ℕ}
 use Rattle.std.proofs.Common.{arith}
-use Rattle.sorted.proofs.Never.{never}
-use Rattle.csexp.specs.declared.At.{At}
-use Rattle.csexp.specs.At.{ends, behind, mark_at}
-use Rattle.csexp.specs.Decode.{Decoder, Fields, inside, one, end, word}
-use Rattle.csexp.specs.Answers.{value_at, fields_at, Reads, Passes, Marks}
+use Rattle.csexp.specs.At.{ends}
+use Rattle.csexp.specs.Answers.{value_at}
 use Rattle.csexp.proofs.Steps.{readers, chosen, opened, passed, closed}
 use Rattle.shapes.specs.Nouns.{WindowNumber, Command}
 use Rattle.shapes.specs.Items.{naming_of}

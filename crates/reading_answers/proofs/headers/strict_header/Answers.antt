@@ -1,6 +1,6 @@
 -- A law for each step: the search stops at its limit here.
 use mathlib.Core.Path.{sym, ap, ◌∙◌}
-use Rattle.csexp.proofs.Lists.{list-opened, field-passed, field-missed, word-passed, word-missed, list-closed, list_open}
+use Rattle.csexp.proofs.Lists.{list-opened, word-passed, word-missed, list-closed, list_open}
 use Rattle.std.specs.Prelude.{option_map}
 use Rattle.csexp.proofs.Steps.{mapped}
 use Rattle.reading_answers.proofs.Heading.{once_free}
