@@ -4,6 +4,7 @@ pub mod Numbers
 pub mod Terms
 pub mod Places
 pub mod Steps
+pub mod Lists
 pub mod Digits
 pub mod Leaves
 pub mod Atoms

@@ -10,7 +10,8 @@ use Rattle.csexp.specs.Term.{write}
 use Rattle.sorted.proofs.Never.{never}
 use Rattle.shapes.specs.Texts.{item, item_in}
 use Rattle.shapes.specs.Events.{Message, event_of}
-use Rattle.wim.specs.Nouns.{Item, NoRoom, Accepted}
+use Rattle.wim.specs.Nouns.{Item, NoRoom}
+use Rattle.wim.specs.Step.{Accepted}
 use Rattle.wim.specs.Step.{Browser, Result, declined, accepted, step}
 use Rattle.wim.specs.Wire.{Returned, refusing, put_into, sending, returning, rehearsing, rehearse}
 use Rattle.either_order.specs.Statement.{SameLine, EitherOrderOnTexts}

@@ -43,7 +43,8 @@ use Rattle.tables.specs.Tables.{Table, cap}
 use Rattle.tables.specs.Labels.{window, host, Label, among, every}
 use Rattle.tables.proofs.Update.{every_one}
 use Rattle.shapes.specs.Texts.{Taken, unread, item, item_in}
-use Rattle.wim.specs.Nouns.{WindowNumber, Host, Accepted, Item}
+use Rattle.wim.specs.Nouns.{WindowNumber, Host, Item}
+use Rattle.wim.specs.Step.{Accepted}
 use Rattle.wim.specs.Step.{fresh_labels, Browser, empty_browser, Result, declined, accepted, step}
 use Rattle.wim.specs.LocalSteps.{is_local, stands, hosts, names}
 use Rattle.wim.specs.Wire.{rehearse}

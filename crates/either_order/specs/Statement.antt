@@ -6,7 +6,8 @@ use Rattle.tables.specs.Tables.{Table, cap, Tables}
 use Rattle.tables.specs.Labels.{Label}
 use Rattle.shapes.specs.Events.{Message}
 use Rattle.shapes.specs.Texts.{item, item_in}
-use Rattle.wim.specs.Nouns.{WindowNumber, Host, Item, Accepted}
+use Rattle.wim.specs.Nouns.{WindowNumber, Host, Item}
+use Rattle.wim.specs.Step.{Accepted}
 use Rattle.wim.specs.Main.{cookies_in}
 use Rattle.wim.specs.Step.{fresh_labels, Browser, accepted, step}
 pub use Rattle.wim.specs.Made.{Made, empty, next}

@@ -11,7 +11,8 @@ use lib.Dec.{leb}
 use lib.ListN.{length, take, drop, length-append}
 use Rattle.csexp.specs.Term.{write}
 use Rattle.sorted.proofs.Never.{never}
-use Rattle.wim.specs.Nouns.{WindowNumber, Refusal, NoRoom, Accepted, Refused}
+use Rattle.wim.specs.Nouns.{WindowNumber, Refusal, NoRoom}
+use Rattle.wim.specs.Step.{Accepted, Refused}
 use Rattle.wim.specs.Step.{Browser}
 use Rattle.browser.specs.View.{browser}
 use Rattle.wim.specs.Wire.{put_into}

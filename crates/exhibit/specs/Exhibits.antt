@@ -1,12 +1,12 @@
 -- What showing gives: a verdict, a count of bytes and the buffer, as the step on text does (wim's Wire), with the refusals of a step of that script.
-use Rattle.std.specs.Prelude.{◌≡◌, cond, List, ℕ, ◌+◌, leb, length}
+use Rattle.std.specs.Prelude.{◌≡◌, cond, List, ℕ, ◌+◌, leb, length, Result, Ok, Err}
 use Rattle.csexp.specs.Term.{write}
 use Rattle.browser.specs.View.{browser}
-use Rattle.wim.specs.Nouns.{WindowNumber, Refusal, NoRoom, Verdict, Accepted, Refused}
+use Rattle.wim.specs.Nouns.{WindowNumber, Refusal, NoRoom}
+use Rattle.wim.specs.Step.{Verdict, Accepted, Refused}
 use Rattle.wim.specs.Step.{Browser}
 use Rattle.wim.specs.Wire.{put_into}
 use Rattle.wim.specs.Shown.{Shown, hidden, shown, what_is_shown}
-use Rattle.exhibit.specs.declared.Showing.{Showing}
 
 pub record Exhibit : Type 0 where
   pub verdict : Verdict
@@ -30,9 +30,14 @@ exhibited (shown t) out place =
 unfoldable pub exhibit : Browser → WindowNumber → List ℕ → ℕ → Exhibit
 exhibit b w out place = exhibited (what_is_shown b w) out place
 
+-- how many bytes of the buffer were written, or why nothing is shown
+abbrev pub Showing : Type 0
+Showing = Result ℕ Refusal
+
 -- what a result says, with the buffer as it is left
 abbrev pub saying : Showing → List ℕ → Exhibit
-saying r out = record { verdict = r.verdict; count = r.count; buffer = out }
+saying (Ok count) out = record { verdict = Accepted; count = count; buffer = out }
+saying (Err why) out = record { verdict = Refused why; count = 0; buffer = out }
 
 -- What the script of the window w is shown was asked of the memory m, with the buffer out and a place in it: r is given, and out₂ is left.
 pub record Shows (m : List ℕ) (w : WindowNumber) (out : List ℕ) (place : ℕ) (r : Showing) (out₂ : List ℕ) : Type 0 where

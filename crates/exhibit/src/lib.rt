@@ -13,20 +13,15 @@ ghost use Rattle.exhibit.specs.Exhibits.{Shows};
 
 use csexp::write::{close_list, labelled, number, open_list};
 use exhibit_parts::{write_cookies, write_inputs, write_local, write_session};
-use history::Display;
 use memory::Memory;
 use tree::write_windows;
 use types::WindowNumber;
-use types::refusals::{Refusal, Verdict};
+use types::refusals::Refusal;
 use types::rows::Document;
 use walks::{STEPS, origin_of};
 
-// Whether it is shown or why not, and how many bytes of the buffer were written.
-#[derive(Clone, Copy)]
-pub struct Showing {
-    pub verdict: Verdict,
-    pub count: usize,
-}
+// How many bytes of the buffer were written, or why nothing is shown.
+pub type Showing = Result<usize, Refusal>;
 
 // 000 A7:9: (tree document scriptstate scriptinputs cookies localStorage sessionStorage)
 fn write_exhibit(m: &Memory, out: &mut [u8], at: usize, top: WindowNumber, d: Document) -> usize
@@ -73,29 +68,8 @@ pub fn show(m: &Memory, w: WindowNumber, out: &mut [u8], place: usize) -> Showin
     ensures { Shows m.now w out.old place result out.new }
 {
     if browser::is_closed(m) {
-        return Showing {
-            verdict: Verdict::Refused(Refusal::Closed),
-            count: 0,
-        };
+        return Err(Refusal::Closed);
     }
-    let found = history::displayed(m, w);
-    match found {
-        Display::Lacks(what) => Showing {
-            verdict: Verdict::Refused(Refusal::Lacking(what)),
-            count: 0,
-        },
-        Display::Shows(top, d) => {
-            let written = put_exhibit(m, out, place, top, d);
-            match written {
-                Some(count) => Showing {
-                    verdict: Verdict::Accepted,
-                    count,
-                },
-                None => Showing {
-                    verdict: Verdict::Refused(Refusal::NoRoom),
-                    count: 0,
-                },
-            }
-        }
-    }
+    let (top, d) = history::displayed(m, w)?;
+    put_exhibit(m, out, place, top, d).ok_or(Refusal::NoRoom)
 }

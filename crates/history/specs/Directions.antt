@@ -5,7 +5,6 @@ use Rattle.types.specs.declared.WindowNumber.{WindowNumber}
 use Rattle.types.specs.declared.Cancelled.TheVariants.{Bare}
 use Rattle.types.specs.declared.refusals.Refusal.TheVariants.{Stopped}
 use Rattle.types.specs.declared.rows.Document.{Document}
-use Rattle.sorted.specs.Table.{looked}
 use Rattle.tables.specs.Tables.{documents, Tables, update}
 use Rattle.tables.specs.Rows.{setting_active}
 use Rattle.wim.specs.Walks.{documents_of, active_among}
@@ -14,7 +13,6 @@ use Rattle.wim.specs.Sending.{cancel_nav}
 use Rattle.wim.specs.History.{document_before, document_after, neighbour, place_of, nav_back, nav_forward}
 use Rattle.history.specs.declared.Towards.{Towards}
 use Rattle.history.specs.declared.Towards.TheVariants.{Before, After}
-use Rattle.history.specs.declared.Way.{Way}
 
 abbrev pub nav : Towards → WindowNumber → (Program → Program) → Program
 nav Before = nav_back
@@ -38,9 +36,6 @@ way_among q ds = places (active_among ds) (neighbour (near q) ds (active_among d
 
 abbrev pub way : Towards → WindowNumber → List Document → Option (ℕ × ℕ)
 way q w ds = way_among q (documents_of ds w)
-
-abbrev pub leads : Way → Option (ℕ × ℕ)
-leads l = looked l.found (l.from, l.to)
 
 -- 3 to 6 of both algorithms, as a program and as the change that it makes to the tables
 abbrev pub turn : WindowNumber → ℕ → ℕ → Program

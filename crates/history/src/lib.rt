@@ -3,41 +3,28 @@
 #![tactic(auto)]
 
 ghost use Rattle.std.specs.Prelude.{◌≡◌, true, []};
-ghost use Rattle.sorted.specs.Table.{looked};
 ghost use Rattle.memory.specs.Rows.{table};
 ghost use Rattle.layouts.specs.Tables.{documents_in};
 ghost use Rattle.browser.specs.View.{view};
 ghost use Rattle.stepping.specs.Holds.{Carries};
 ghost use Rattle.history.specs.Display.{display_at};
-ghost use Rattle.history.specs.Directions.{beside, way, leads, turned};
+ghost use Rattle.history.specs.Directions.{beside, way, turned};
 
 use memory::Memory;
 use types::WindowNumber;
 use types::refusals::Missing;
 use types::rows::Document;
 
-// What isn't there, or the top-level window from which the window is reached and the active document in it.
-#[derive(Clone, Copy)]
-pub enum Display {
-    Lacks(Missing),
-    Shows(WindowNumber, Document),
-}
+// The top-level window from which a window is reached and the active document in it, or what isn't there.
+pub type Display = Result<(WindowNumber, Document), Missing>;
 
 // "w ← Subwindows(s') such that s'.w.documents ≠ ⟨⟩ if possible; otherwise stop" (000 A9:10, 31, 38, 41)
 pub fn displayed(m: &Memory, w: WindowNumber) -> Display
     ensures { result ≡ display_at w (view m.now) }
 {
-    let t = walks::reached(m, w);
-    if t.found {
-        let a = walks::active_document(m, w);
-        if a.found {
-            let top = t.window;
-            let d = a.row;
-            return Display::Shows(top, d);
-        }
-        return Display::Lacks(Missing::NoDocument);
-    }
-    Display::Lacks(Missing::NoWindow)
+    let top = walks::reached(m, w).ok_or(Missing::NoWindow)?;
+    let d = walks::active_document(m, w).ok_or(Missing::NoDocument)?;
+    Ok((top, d))
 }
 
 // NAVBACK goes to the document before, NAVFORWARD to the document after.
@@ -47,16 +34,8 @@ pub enum Towards {
     After,
 }
 
-// From the place of the active document to that of the document beside it, if there is one. Where there is none, the places say nothing.
-#[derive(Clone, Copy)]
-pub struct Way {
-    pub found: bool,
-    pub from: u32,
-    pub to: u32,
-}
-
-fn beside(m: &Memory, w: WindowNumber, d: Document, q: Towards) -> documents::Found
-    ensures { looked result.found result.row ≡ beside q w (table documents_in m.now) d }
+fn beside(m: &Memory, w: WindowNumber, d: Document, q: Towards) -> Option<Document>
+    ensures { result ≡ beside q w (table documents_in m.now) d }
 {
     let place = d.place;
     match q {
@@ -65,20 +44,13 @@ fn beside(m: &Memory, w: WindowNumber, d: Document, q: Towards) -> documents::Fo
     }
 }
 
-// Line 2.
-pub fn look(m: &Memory, w: WindowNumber, q: Towards) -> Way
-    ensures { leads result ≡ way q w (table documents_in m.now) }
+// Line 2: from the place of the active document to that of the document beside it, if there is one.
+pub fn look(m: &Memory, w: WindowNumber, q: Towards) -> Option<(u32, u32)>
+    ensures { result ≡ way q w (table documents_in m.now) }
 {
-    let a = walks::active_document(m, w);
-    let d = a.row;
-    let n = beside(m, w, d, q);
-    let e = n.row;
-    let found = sorted::both(a.found, n.found);
-    Way {
-        found: found,
-        from: d.place,
-        to: e.place,
-    }
+    let d = walks::active_document(m, w)?;
+    let e = beside(m, w, d, q)?;
+    Some((d.place, e.place))
 }
 
 // Lines 3 to 5. CANCELNAV is given a bare number, which equals no reference, and changes nothing.

@@ -26,7 +26,6 @@ pub fn ingleskip_step(
     ensures { Steps text.now m.old out.old place result count.new m.new out.new }
 {
     let told = rehearsal::step(text, m, out, place);
-    let verdict = told.verdict;
-    *count = told.count;
-    rehearsal::number(verdict)
+    *count = told.unwrap_or(0);
+    rehearsal::number(told)
 }

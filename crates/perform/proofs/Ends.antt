@@ -11,7 +11,7 @@ use Rattle.types.specs.declared.items.Event.{Event}
 use Rattle.types.specs.declared.items.Item.{Item}
 use Rattle.types.specs.declared.refusals.Refusal.{Refusal}
 use Rattle.types.specs.declared.refusals.Refusal.TheVariants.{BadText, BadShape, Lacking, Stopped, NotFresh, Full, NoRoom, Closed}
-use Rattle.types.specs.declared.refusals.Verdict.TheVariants.{Refused}
+use Rattle.wim.specs.Step.{Refused}
 use Rattle.shapes.specs.Events.{message_of}
 use Rattle.wim.specs.Main.{cookies_in, program}
 use Rattle.wim.specs.Program.{Outcome, refused, made}

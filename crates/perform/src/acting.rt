@@ -1,13 +1,12 @@
 // The step of an item in place. Where it finds a table full, it leaves the memory as it stands then: that is for a copy, or for a memory that has room.
 ghost use Rattle.std.specs.Prelude.{◌≡◌};
 ghost use Rattle.wim.specs.Step.{closes};
-ghost use Rattle.perform.specs.Acts.{is_accepted, Acts};
+ghost use Rattle.perform.specs.Acts.{Acts};
 
 use crate::events::happen;
 use memory::Memory;
 use stepping::Performed;
 use types::items::{Event, Item};
-use types::refusals::Verdict;
 
 // 000 A9:53.
 fn closes(e: Event) -> bool
@@ -26,26 +25,12 @@ fn closes(e: Event) -> bool
     }
 }
 
-pub fn accepted(verdict: Verdict) -> bool
-    ensures { result ≡ is_accepted verdict }
-{
-    match verdict {
-        Verdict::Accepted => true,
-        Verdict::Refused(_) => false,
-    }
-}
-
 pub fn act(m: &mut Memory, item: Item) -> Performed
     ensures { Acts item m.old m.new result }
 {
-    let e = item.event;
-    let new = item.cookies;
-    let f = item.fresh;
-    let done = happen(m, e, new, f);
-    let verdict = done.verdict;
-    if accepted(verdict) {
-        browser::set_closed(m, closes(e));
-        return done;
+    let done = happen(m, item.event, item.cookies, item.fresh);
+    if done.is_ok() {
+        browser::set_closed(m, closes(item.event));
     }
     done
 }

@@ -4,5 +4,5 @@
 mod events; // each event by its own function
 mod acting; // the step of an item: open or closed behind it
 
-pub use acting::{accepted, act};
+pub use acting::act;
 pub use events::happen;

@@ -16,8 +16,8 @@ use Rattle.types.specs.declared.refusals.Missing.{Missing}
 use Rattle.types.specs.declared.refusals.Missing.TheVariants.{NoWindow, NoDocument, NoQuestion, NoRequest, Mismatch}
 use Rattle.types.specs.declared.refusals.Refusal.{Refusal}
 use Rattle.types.specs.declared.refusals.Refusal.TheVariants.{BadText, BadShape, Lacking, Stopped as Forbidden, NotFresh, Full, NoRoom, Closed}
-use Rattle.types.specs.declared.refusals.Verdict.{Verdict}
-use Rattle.types.specs.declared.refusals.Verdict.TheVariants.{Accepted, Refused}
+use Rattle.wim.specs.Step.{Verdict}
+use Rattle.wim.specs.Step.{Accepted, Refused}
 use Rattle.shapes.specs.Events.{Message, event_of}
 use Rattle.shapes.specs.Texts.{Taken, unread, item, item_in}
 use Rattle.wim.specs.Step.{missing_number, refusal_number, verdict_number, Browser, Result, declined, accepted}

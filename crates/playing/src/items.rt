@@ -15,9 +15,6 @@ pub fn play_item(text: &[u8], m: &mut Memory, out: &mut [u8], at: usize) -> usiz
     ensures { Turns (performed (item_in text.now) (browser m.old)) (browser m.old) out.old at out.new (browser m.new) result }
 {
     let told = rehearsal::step(text, m, out, at);
-    let verdict = told.verdict;
-    let count = told.count;
-    let n = rehearsal::number(verdict);
-    let p = put_answer(out, at, count, n);
+    let p = put_answer(out, at, told.unwrap_or(0), rehearsal::number(told));
     put_byte(out, p, b'\n')
 }

@@ -14,7 +14,8 @@ use Rattle.sorted.proofs.Never.{never}
 use Rattle.shapes.specs.Texts.{Taken, unread, item, item_in}
 use Rattle.shapes.specs.Events.{Message, event_of}
 use Rattle.writing.specs.Outgoing.{sent_in}
-use Rattle.wim.specs.Nouns.{Item, NoRoom, Accepted}
+use Rattle.wim.specs.Nouns.{Item, NoRoom}
+use Rattle.wim.specs.Step.{Accepted}
 use Rattle.wim.specs.Step.{Browser, empty_browser, Result, declined, accepted, step}
 use Rattle.wim.specs.Wire.{Returned, refusing, put_into, returning, rehearsing, rehearse}
 use Rattle.wim.specs.Run.{performed}

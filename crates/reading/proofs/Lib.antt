@@ -1,2 +1,3 @@
--- The laws of whole texts.
+-- The laws of whole texts; of choices.
 pub mod Takings
+pub mod Triggers

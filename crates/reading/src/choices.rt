@@ -1,174 +1,102 @@
 // The choices of a TRIGGER, "in the algorithm's order" (01 "The text"): 000 A7 and A9.
-ghost use Rattle.csexp.specs.Answers.{Reads};
-ghost use Rattle.csexp.specs.Text.{text};
-ghost use Rattle.shapes.specs.Nouns.{Reload, GoForward, GoBack};
-ghost use Rattle.shapes.specs.Items.{script_of, place_of, urlbar_of, trigger_of, choices_of};
+#![tactic(auto, using(csexp::proofs::Steps::readers))]
 
-use csexp::{mark, number, optional, word};
-use reading_answers::HappeningAt;
+ghost use Rattle.csexp.specs.Answers.{Reads};
+ghost use Rattle.shapes.specs.Items.{script_of, place_of, urlbar_of, choices_of};
+
+use csexp::{At, mark, means, number, optional, word};
+use reading_answers::quietly;
 use reading_parts::{
-    NO_COOKIES, TargetAt, read_command, read_cookies, read_fragment, read_protocol, read_window,
-    short_number,
+    read_command, read_cookies, read_fragment, read_named, read_protocol, read_window, short_number,
 };
 use types::commands::{ScriptState, Target};
 use types::items::{Event, Happening, Output, Stored};
 use types::{Host, Parameters, Path, Url};
 
 // (6:script window scriptstate cookies localStorage sessionStorage command)
-fn read_script(s: &[u8], at: usize) -> HappeningAt
-    ensures { Reads script_of s.now at result.value result.next }
+#[tactic(auto, using(csexp::proofs::Steps::fields))]
+fn read_script(s: &[u8], at: usize) -> Option<At<Happening>>
+    ensures { Reads script_of s.now at result }
 {
-    let a = mark(s, at, b'(');
-    let b = word(s, a, b"script");
-    let w = read_window(s, b);
-    let state = number(s, w.next, 0, 4294967295);
-    let c = read_cookies(s, state.next);
-    let local = optional(s, c.next, 4294967295);
-    let session = optional(s, local.next, 4294967295);
-    let d = read_command(s, session.next);
-    let e = mark(s, d.next, b')');
-    let window = w.value;
-    let cookies = c.value;
-    let command = d.value;
+    let a = mark(s, at, b'(')?;
+    let b = word(s, a, b"script")?;
+    let window = read_window(s, b)?;
+    let state = number(s, window.next, 0, u32::MAX)?;
+    let cookies = read_cookies(s, state.next)?;
+    let local = optional(s, cookies.next, u32::MAX)?;
+    let session = optional(s, local.next, u32::MAX)?;
+    let command = read_command(s, session.next)?;
+    let next = mark(s, command.next, b')')?;
     let output = Output {
         state: ScriptState(state.value),
         local: Stored(local.value),
         session: Stored(session.value),
-        command,
+        command: command.value,
     };
-    HappeningAt {
+    Some(At {
         value: Happening {
-            event: Event::RunScript(window, output),
-            cookies,
+            event: Event::RunScript(window.value, output),
+            cookies: cookies.value,
         },
-        next: e,
-    }
+        next,
+    })
 }
 
 // 3:new, or a labelled window
-fn read_place(s: &[u8], at: usize) -> TargetAt
-    ensures { Reads place_of s.now at result.value result.next }
+fn read_place(s: &[u8], at: usize) -> Option<At<Target>>
+    ensures { Reads place_of s.now at result }
 {
-    let p = word(s, at, b"new");
-    if p <= s.len() {
-        return TargetAt {
-            value: Target::NewWindow,
-            next: p,
-        };
+    if let Some(found) = means(s, at, b"new", Target::NewWindow) {
+        return Some(found);
     }
-    let w = read_window(s, at);
-    let window = w.value;
-    TargetAt {
-        value: Target::Existing(window),
-        next: w.next,
-    }
+    let window = read_window(s, at)?;
+    Some(window.map(Target::Existing))
 }
 
 // (6:urlbar place protocol host path fragment parameters): A9:22 to 26 choose the fragment first
-fn read_urlbar(s: &[u8], at: usize) -> HappeningAt
-    ensures { Reads urlbar_of s.now at result.value result.next }
+#[tactic(auto, using(csexp::proofs::Steps::fields))]
+fn read_urlbar(s: &[u8], at: usize) -> Option<At<Happening>>
+    ensures { Reads urlbar_of s.now at result }
 {
-    let a = mark(s, at, b'(');
-    let b = word(s, a, b"urlbar");
-    let t = read_place(s, b);
-    let scheme = read_protocol(s, t.next);
-    let host = short_number(s, scheme.next, 1, 65535);
-    let path = short_number(s, host.next, 0, 65535);
-    let f = read_fragment(s, path.next);
-    let parameters = optional(s, f.next, 4294967295);
-    let e = mark(s, parameters.next, b')');
-    let target = t.value;
-    let protocol = scheme.value;
-    let fragment = f.value;
+    let a = mark(s, at, b'(')?;
+    let b = word(s, a, b"urlbar")?;
+    let target = read_place(s, b)?;
+    let protocol = read_protocol(s, target.next)?;
+    let host = short_number(s, protocol.next, 1, u16::MAX)?;
+    let path = short_number(s, host.next, 0, u16::MAX)?;
+    let fragment = read_fragment(s, path.next)?;
+    let parameters = optional(s, fragment.next, u32::MAX)?;
+    let next = mark(s, parameters.next, b')')?;
     let url = Url {
-        protocol,
+        protocol: protocol.value,
         host: Host(host.value),
         path: Path(path.value),
         parameters: Parameters(parameters.value),
-        fragment,
+        fragment: fragment.value,
     };
-    HappeningAt {
-        value: Happening {
-            event: Event::Urlbar(target, url),
-            cookies: NO_COOKIES,
-        },
-        next: e,
-    }
+    Some(At {
+        value: quietly(Event::Urlbar(target.value, url)),
+        next,
+    })
 }
 
-// (6:reload window)
-fn read_reload(s: &[u8], at: usize) -> HappeningAt
-    ensures { Reads (trigger_of (text "reload") Reload) s.now at result.value result.next }
+// script, urlbar, or one of (6:reload window), (7:forward window), (4:back window)
+#[tactic(auto, using(crate::proofs::Triggers::choices))]
+pub fn read_choices(s: &[u8], at: usize) -> Option<At<Happening>>
+    ensures { Reads choices_of s.now at result }
 {
-    let a = mark(s, at, b'(');
-    let b = word(s, a, b"reload");
-    let w = read_window(s, b);
-    let e = mark(s, w.next, b')');
-    let window = w.value;
-    HappeningAt {
-        value: Happening {
-            event: Event::Reload(window),
-            cookies: NO_COOKIES,
-        },
-        next: e,
+    if let Some(script) = read_script(s, at) {
+        return Some(script);
     }
-}
-
-// (7:forward window)
-fn read_forward(s: &[u8], at: usize) -> HappeningAt
-    ensures { Reads (trigger_of (text "forward") GoForward) s.now at result.value result.next }
-{
-    let a = mark(s, at, b'(');
-    let b = word(s, a, b"forward");
-    let w = read_window(s, b);
-    let e = mark(s, w.next, b')');
-    let window = w.value;
-    HappeningAt {
-        value: Happening {
-            event: Event::GoForward(window),
-            cookies: NO_COOKIES,
-        },
-        next: e,
+    if let Some(urlbar) = read_urlbar(s, at) {
+        return Some(urlbar);
     }
-}
-
-// (4:back window)
-fn read_back(s: &[u8], at: usize) -> HappeningAt
-    ensures { Reads (trigger_of (text "back") GoBack) s.now at result.value result.next }
-{
-    let a = mark(s, at, b'(');
-    let b = word(s, a, b"back");
-    let w = read_window(s, b);
-    let e = mark(s, w.next, b')');
-    let window = w.value;
-    HappeningAt {
-        value: Happening {
-            event: Event::GoBack(window),
-            cookies: NO_COOKIES,
-        },
-        next: e,
+    if let Some(window) = read_named(s, at, b"reload") {
+        return Some(window.map(|w| quietly(Event::Reload(w))));
     }
-}
-
-// script, urlbar, reload, forward or back
-pub fn read_choices(s: &[u8], at: usize) -> HappeningAt
-    ensures { Reads choices_of s.now at result.value result.next }
-{
-    let script = read_script(s, at);
-    if script.next <= s.len() {
-        return script;
+    if let Some(window) = read_named(s, at, b"forward") {
+        return Some(window.map(|w| quietly(Event::GoForward(w))));
     }
-    let urlbar = read_urlbar(s, at);
-    if urlbar.next <= s.len() {
-        return urlbar;
-    }
-    let reload = read_reload(s, at);
-    if reload.next <= s.len() {
-        return reload;
-    }
-    let forward = read_forward(s, at);
-    if forward.next <= s.len() {
-        return forward;
-    }
-    read_back(s, at)
+    let window = read_named(s, at, b"back")?;
+    Some(window.map(|w| quietly(Event::GoBack(w))))
 }

@@ -6,4 +6,4 @@ mod fresh; // the fresh numbers
 mod items; // events and items
 pub mod texts; // whole texts: the item, or refusal 1 or 2
 
-pub use texts::{Reading, read_item};
+pub use texts::read_item;

@@ -1,60 +1,46 @@
 // The status and the body of an answer.
+#![tactic(auto, using(csexp::proofs::Steps::readers))]
+
 ghost use Rattle.csexp.specs.Answers.{Reads};
 ghost use Rattle.csexp.specs.Decode.{numeral};
 ghost use Rattle.shapes.specs.Items.{page_of, body_of};
 
-use csexp::{LOST, mark, number};
-use reading_parts::{Short, short_number};
+use csexp::{At, mark, number};
+use reading_parts::short_number;
 use types::answers::Body;
 use types::commands::{Script, ScriptState};
-use words::statuses::{StatusKind, status_kind};
+use words::statuses::status_kind;
 
 // A number that is a status.
-pub fn read_status(s: &[u8], at: usize) -> Short
-    ensures { Reads (numeral 100 505) s.now at result.value result.next }
+#[tactic(auto, using(crate::proofs::Statuses::statuses))]
+pub fn read_status(s: &[u8], at: usize) -> Option<At<u16>>
+    ensures { Reads (numeral 100 505) s.now at result }
 {
-    let n = short_number(s, at, 0, 65535);
-    let kind = status_kind(n.value);
-    match kind {
-        StatusKind::Redirects => n,
-        StatusKind::Other => n,
-        StatusKind::NoStatus => Short {
-            value: 0,
-            next: LOST,
-        },
-    }
-}
-
-#[derive(Clone, Copy)]
-pub struct BodyAt {
-    pub value: Body,
-    pub next: usize,
+    let n = short_number(s, at, 0, u16::MAX)?;
+    status_kind(n.value)?;
+    Some(n)
 }
 
 // (script scriptstate)
-fn read_page(s: &[u8], at: usize) -> BodyAt
-    ensures { Reads page_of s.now at result.value result.next }
+fn read_page(s: &[u8], at: usize) -> Option<At<Body>>
+    ensures { Reads page_of s.now at result }
 {
-    let a = mark(s, at, b'(');
-    let script = number(s, a, 0, 4294967295);
-    let state = number(s, script.next, 0, 4294967295);
-    let e = mark(s, state.next, b')');
-    BodyAt {
+    let a = mark(s, at, b'(')?;
+    let script = number(s, a, 0, u32::MAX)?;
+    let state = number(s, script.next, 0, u32::MAX)?;
+    let next = mark(s, state.next, b')')?;
+    Some(At {
         value: Body::Page(Script(script.value), ScriptState(state.value)),
-        next: e,
-    }
+        next,
+    })
 }
 
 // a number, or a page
-pub fn read_body(s: &[u8], at: usize) -> BodyAt
-    ensures { Reads body_of s.now at result.value result.next }
+pub fn read_body(s: &[u8], at: usize) -> Option<At<Body>>
+    ensures { Reads body_of s.now at result }
 {
-    let n = number(s, at, 0, 4294967295);
-    if n.next <= s.len() {
-        return BodyAt {
-            value: Body::Number(n.value),
-            next: n.next,
-        };
+    if let Some(n) = number(s, at, 0, u32::MAX) {
+        return Some(n.map(Body::Number));
     }
     read_page(s, at)
 }

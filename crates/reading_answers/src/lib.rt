@@ -5,4 +5,4 @@ mod bodies; // the status and the body of an answer
 mod headers; // its headers, in any order
 mod messages; // answers, plain and encrypted, DNS answers, closing
 
-pub use messages::{HappeningAt, read_message};
+pub use messages::{quietly, read_message};

@@ -1,3 +1,3 @@
--- The laws of numbers within a range, and of arrays that are blank behind their last row.
-pub mod Ranges
+-- Arrays that are blank behind their last row; what is made of a word and a window.
 pub mod Blanks
+pub mod Making

@@ -11,11 +11,8 @@ mod loading; // commands that load an address
 mod naming; // commands that name a window
 mod choosing; // one of them, or nothing
 
-pub use addresses::{
-    FragmentAt, OriginAt, ProtocolAt, UrlAt, read_fragment, read_origin, read_protocol, read_url,
-};
+pub use addresses::{read_fragment, read_origin, read_protocol, read_url};
 pub use choosing::read_command;
-pub use cookies::{CookiesAt, FlagAt, NO_COOKIES, read_cookies, read_flag};
-pub use loading::CommandAt;
-pub use numbers::{Short, WindowAt, read_window, short_number};
-pub use targets::TargetAt;
+pub use cookies::{NO_COOKIES, read_cookies, read_flag};
+pub use naming::read_named;
+pub use numbers::{read_window, short_number};

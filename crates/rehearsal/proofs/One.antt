@@ -11,7 +11,7 @@ use lib.ListN.{length}
 use Rattle.csexp.specs.Term.{write}
 use Rattle.types.specs.declared.refusals.Refusal.{Refusal}
 use Rattle.types.specs.declared.refusals.Refusal.TheVariants.{NoRoom}
-use Rattle.types.specs.declared.refusals.Verdict.TheVariants.{Accepted, Refused}
+use Rattle.wim.specs.Step.{Accepted, Refused}
 use Rattle.shapes.specs.Events.{event_of}
 use Rattle.shapes.specs.Texts.{Taken, unread, item, item_in}
 use Rattle.wim.specs.Step.{Browser, Result, declined, accepted, step}

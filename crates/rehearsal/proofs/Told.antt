@@ -16,8 +16,8 @@ use Rattle.std.specs.Prelude.{Some as Bytes, None as Crowded}
 use Rattle.types.specs.declared.items.Item.{Item}
 use Rattle.types.specs.declared.refusals.Refusal.{Refusal}
 use Rattle.types.specs.declared.refusals.Refusal.TheVariants.{BadText, BadShape, Lacking, Stopped, NotFresh, Full, NoRoom, Closed}
-use Rattle.types.specs.declared.refusals.Verdict.{Verdict}
-use Rattle.types.specs.declared.refusals.Verdict.TheVariants.{Accepted, Refused}
+use Rattle.wim.specs.Step.{Verdict}
+use Rattle.wim.specs.Step.{Accepted, Refused}
 use Rattle.sorted.proofs.Count.{taken-fits}
 use Rattle.shapes.specs.Events.{Message, event_of, message_of}
 use Rattle.writing.specs.Wrote.{Wrote}

@@ -6,7 +6,7 @@ use Prim.Native.Nat.{ℕ}
 use Rattle.types.specs.declared.items.Item.{Item}
 use Rattle.types.specs.declared.refusals.Refusal.{Refusal}
 use Rattle.types.specs.declared.refusals.Refusal.TheVariants.{Closed}
-use Rattle.types.specs.declared.refusals.Verdict.TheVariants.{Accepted, Refused}
+use Rattle.wim.specs.Step.{Accepted, Refused}
 use Rattle.sorted.proofs.Never.{never}
 use Rattle.shapes.specs.Texts.{Taken, unread, item, item_in}
 use Rattle.reading.specs.declared.texts.Reading.{Reading}

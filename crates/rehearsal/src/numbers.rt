@@ -1,8 +1,10 @@
 // The numbers of 01 "Refusal numbers".
 ghost use Rattle.std.specs.Prelude.{◌≡◌};
 ghost use Rattle.wim.specs.Step.{refusal_number, verdict_number};
+ghost use Rattle.rehearsal.specs.Rehearses.{verdict_of};
 
-use types::refusals::{Refusal, Verdict};
+use crate::telling::Rehearsed;
+use types::refusals::Refusal;
 
 fn refusal_number(why: Refusal) -> u32
     ensures { result ≡ refusal_number why }
@@ -20,11 +22,11 @@ fn refusal_number(why: Refusal) -> u32
 }
 
 // A refusal's number, and 0 for an accepted step.
-pub fn number(verdict: Verdict) -> u32
-    ensures { result ≡ verdict_number verdict }
+pub fn number(told: Rehearsed) -> u32
+    ensures { result ≡ verdict_number (verdict_of told) }
 {
-    match verdict {
-        Verdict::Accepted => 0,
-        Verdict::Refused(why) => refusal_number(why),
+    match told {
+        Ok(_) => 0,
+        Err(why) => refusal_number(why),
     }
 }

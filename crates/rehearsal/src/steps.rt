@@ -8,7 +8,7 @@ use crate::telling::{Rehearsed, is_wide, tell};
 use memory::Memory;
 use reading::read_item;
 use types::items::Item;
-use types::refusals::{Refusal, Verdict};
+use types::refusals::Refusal;
 
 // Where 6 or 7 may come the step is taken on a copy, which takes the memory's place only where it was accepted. The one copy, so that the stack holds no second.
 fn on_a_copy(item: Item, m: &mut Memory, out: &mut [u8], place: usize) -> Rehearsed
@@ -17,10 +17,8 @@ fn on_a_copy(item: Item, m: &mut Memory, out: &mut [u8], place: usize) -> Rehear
     let mut copy = *m;
     let done = perform::act(&mut copy, item);
     let told = tell(done, out, place);
-    let verdict = told.verdict;
-    if perform::accepted(verdict) {
+    if told.is_ok() {
         *m = copy;
-        return told;
     }
     told
 }
@@ -30,12 +28,9 @@ fn rehearse_item(item: Item, m: &mut Memory, out: &mut [u8], place: usize) -> Re
     ensures { Returns (step item (browser m.old)) m.old out.old place result m.new out.new }
 {
     if browser::is_closed(m) {
-        return Rehearsed {
-            verdict: Verdict::Refused(Refusal::Closed),
-            count: 0,
-        };
+        return Err(Refusal::Closed);
     }
-    if sorted::both(browser::is_roomy(m), is_wide(out, place)) {
+    if browser::is_roomy(m) && is_wide(out, place) {
         let done = perform::act(m, item);
         return tell(done, out, place);
     }
@@ -46,16 +41,5 @@ fn rehearse_item(item: Item, m: &mut Memory, out: &mut [u8], place: usize) -> Re
 pub fn step(text: &[u8], m: &mut Memory, out: &mut [u8], place: usize) -> Rehearsed
     ensures { Rehearses text.now m.old out.old place result m.new out.new }
 {
-    let reading = read_item(text);
-    let verdict = reading.verdict;
-    match verdict {
-        Verdict::Accepted => {
-            let item = reading.item;
-            rehearse_item(item, m, out, place)
-        }
-        Verdict::Refused(why) => Rehearsed {
-            verdict: Verdict::Refused(why),
-            count: 0,
-        },
-    }
+    rehearse_item(read_item(text)?, m, out, place)
 }

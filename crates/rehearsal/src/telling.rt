@@ -2,15 +2,11 @@
 ghost use Rattle.rehearsal.specs.Writes.{Wide, Writes};
 
 use stepping::Performed;
-use types::refusals::{Refusal, Verdict};
+use types::refusals::Refusal;
 use writing::write_event;
 
-// How many bytes of the buffer were written; a refusal writes none.
-#[derive(Clone, Copy)]
-pub struct Rehearsed {
-    pub verdict: Verdict,
-    pub count: usize,
-}
+// How many bytes of the buffer were written, or why the step is refused: a refusal writes none.
+pub type Rehearsed = Result<usize, Refusal>;
 
 // Whether there is room for the longest event: "An outgoing event has at most 4,096 bytes" (01 "Numbers, names, sizes").
 pub fn is_wide(out: &[u8], place: usize) -> bool
@@ -26,17 +22,6 @@ pub fn is_wide(out: &[u8], place: usize) -> bool
 pub fn tell(done: Performed, out: &mut [u8], place: usize) -> Rehearsed
     ensures { Writes done out.old place result out.new }
 {
-    let sent = done.sent;
-    let request = done.request;
-    let written = write_event(out, place, sent, request);
-    match written {
-        Some(count) => {
-            let verdict = done.verdict;
-            Rehearsed { verdict, count }
-        }
-        None => Rehearsed {
-            verdict: Verdict::Refused(Refusal::NoRoom),
-            count: 0,
-        },
-    }
+    let message = done?;
+    write_event(out, place, message).ok_or(Refusal::NoRoom)
 }

@@ -9,7 +9,7 @@ use Rattle.tables.specs.Tables.{pending_dns, pending_requests, key_of, Tables, a
 use Rattle.wim.specs.Program.{Program}
 use Rattle.wim.specs.Main.{waiting_of}
 use Rattle.pending_dns.specs.Tidied.{tidied}
-use Rattle.stepping.specs.declared.Performed.{Performed}
+use Rattle.stepping.specs.Gives.{Performed}
 use Rattle.stepping.specs.Performs.{Performs}
 
 abbrev pub handed_over : Question → Seal → Address → Tables → Tables

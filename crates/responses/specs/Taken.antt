@@ -1,20 +1,17 @@
 -- What an answer does on its course, behind its headers: the edits of `takes` in `wim`, as a function of the code's value.
-use Rattle.std.specs.Prelude.{Bool, ◌&&◌, List, [], ◌∷◌, ℕ}
+use Rattle.std.specs.Prelude.{◌≡◌, Bool, ◌&&◌, List, [], ◌∷◌, ℕ, Option, None as none, Some as some}
 use Rattle.types.specs.declared.Fresh.{Fresh}
-use Rattle.types.specs.declared.Sent.{Sent}
-use Rattle.types.specs.declared.Sent.TheVariants.{Silence, Resolve}
 use Rattle.types.specs.declared.Wants.{Wants}
 use Rattle.types.specs.declared.answers.Answer.{Answer}
 use Rattle.types.specs.declared.rows.Waiting.{Waiting}
 use Rattle.sorted.specs.Table.{put}
 use Rattle.tables.specs.Tables.{Table, windows, documents, inputs, pending_dns, Tables, apply}
-use Rattle.tables.specs.Rows.{blank_request}
+use Rattle.shapes.specs.Events.{Message, resolve}
 use Rattle.wim.specs.Walks.{Removal}
 use Rattle.wim.specs.Response.{with_fragment_of, redirection, new_document}
-use Rattle.stepping.specs.declared.Performed.{Performed}
 use Rattle.stepping.specs.Wanted.{wants_nothing, wants_send, wants_document}
 use Rattle.stepping.specs.Holds.{Carries}
-use Rattle.stepping.specs.Gives.{Concludes}
+use Rattle.stepping.specs.Gives.{Performed, concluded}
 use Rattle.sending.specs.Sends.{sent}
 use Rattle.responses.specs.declared.courses.Course.{Course as Way}
 use Rattle.responses.specs.declared.courses.Course.TheVariants.{Followed, Loaded, Handed, NothingMore}
@@ -47,14 +44,14 @@ drops_by (Handed row) = []
 drops_by NothingMore = []
 
 -- what goes out
-abbrev pub says_by : Way → Fresh → Sent
-says_by (Followed u) f = Resolve u.host f.dns
-says_by (Loaded v was place script state) f = Silence
-says_by (Handed row) f = Silence
-says_by NothingMore f = Silence
+abbrev pub says_by : Way → Fresh → Option Message
+says_by (Followed u) f = some (resolve u.host f.dns)
+says_by (Loaded v was place script state) f = none
+says_by (Handed row) f = none
+says_by NothingMore f = none
 
 -- from the memory m to the memory n, where `room` tells of what was put before
 pub record Takes (c : Way) (gone : Removal) (w : Waiting) (a : Answer) (f : Fresh) (room : Bool) (m n : List ℕ) (r : Performed) : Type 0 where
   pub put : Bool
   pub carries : Carries (taken c gone w a f) (puts_by c) (drops_by c) m n put
-  pub concludes : Concludes (room && put) (says_by c f) blank_request r
+  pub concludes : r ≡ concluded (room && put) (says_by c f)

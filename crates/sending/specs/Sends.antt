@@ -1,19 +1,18 @@
 -- HTTP_SEND in a memory (000 A4): a question is put, made of what the tables say then, and asked.
-use Rattle.std.specs.Prelude.{Bool, cond, ◌&&◌, List, [], ◌∷◌, map, ℕ}
+use Rattle.std.specs.Prelude.{◌≡◌, Bool, cond, ◌&&◌, List, [], ◌∷◌, map, ℕ, Some as some}
 use Rattle.types.specs.declared.Fresh.{Fresh}
 use Rattle.types.specs.declared.Sending.{Sending}
-use Rattle.types.specs.declared.Sent.TheVariants.{Resolve}
 use Rattle.types.specs.declared.Url.{Url}
 use Rattle.types.specs.declared.cookies.Pair.{Pair}
 use Rattle.types.specs.declared.rows.Question.{Question}
 use Rattle.sorted.specs.Table.{put}
 use Rattle.tables.specs.Tables.{pending_dns, Tables, apply}
-use Rattle.tables.specs.Rows.{jar, pair_of, blank_request}
+use Rattle.tables.specs.Rows.{jar, pair_of}
+use Rattle.shapes.specs.Events.{resolve}
 use Rattle.wim.specs.Program.{observed, strict, cookies_for}
 use Rattle.wim.specs.Sending.{secured, question_of}
-use Rattle.stepping.specs.declared.Performed.{Performed}
 use Rattle.stepping.specs.Holds.{Carries}
-use Rattle.stepping.specs.Gives.{Concludes}
+use Rattle.stepping.specs.Gives.{Performed, concluded}
 
 -- 2, 3: the address that goes out
 abbrev pub url_from : Sending → Tables → Url
@@ -35,4 +34,4 @@ sent o q n w = apply pending_dns (put (question_from o q n w) ∷ []) w
 pub record Sends (room : Bool) (o : Sending) (f : Fresh) (m n : List ℕ) (r : Performed) : Type 0 where
   pub put : Bool
   pub carries : Carries (sent o f.request.0 f.dns.0) (pending_dns ∷ []) [] m n put
-  pub concludes : Concludes (room && put) (Resolve o.url.host f.dns) blank_request r
+  pub concludes : r ≡ concluded (room && put) (some (resolve o.url.host f.dns))

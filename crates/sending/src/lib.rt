@@ -16,8 +16,8 @@ use stepping::Performed;
 use types::cookies::Jar;
 use types::rows::Question;
 use types::{
-    Cancelled, DnsNumber, Fresh, Parameters, Path, Policy, Protocol, Referrer, Request,
-    RequestNumber, Sending, Sent, Url,
+    Cancelled, DnsNumber, Fresh, Message, Parameters, Path, Policy, Protocol, Referrer, Request,
+    RequestNumber, Sending, Url,
 };
 
 // A4:2, 3
@@ -145,14 +145,8 @@ pub fn send(m: &mut Memory, o: Sending, q: RequestNumber, n: DnsNumber) -> bool
 pub fn http_send(m: &mut Memory, room: bool, o: Sending, f: Fresh) -> Performed
     ensures { Sends room o f m.old m.new result }
 {
-    let url = o.url;
-    let h = url.host;
-    let q = f.request;
-    let n = f.dns;
-    let put = send(m, o, q, n);
-    let all = sorted::both(room, put);
-    let none = labels::no_request();
-    stepping::conclude(all, Sent::Resolve(h, n), none)
+    let put = send(m, o, f.request, f.dns);
+    stepping::conclude(room && put, Some(Message::Resolve(o.url.host, f.dns)))
 }
 
 // CANCELNAV: a window's number without its label equals no reference.

@@ -5,7 +5,8 @@ use Rattle.csexp.specs.Text.{text}
 use Rattle.csexp.specs.Term.{Term, atom, list, Terms, nil, cons, write}
 use Rattle.csexp.specs.Encode.{number_term, optional_term, each, labelled, joins}
 use Rattle.types.specs.Lists.{header_pairs}
-use Rattle.shapes.specs.Nouns.{Host, Address, DnsNumber, KeyNumber, Protocol, Plain, Secure, Fragment, Absent, Named, Url, Origin, CookieName, Pair, Jar, Method, OriginHeader, Unsent, Null, From, Referrer, Unknown, Known, Request, Sent, Silence, Resolve, Open, Sealed}
+use Rattle.shapes.specs.Nouns.{Host, Address, DnsNumber, KeyNumber, Protocol, Plain, Secure, Fragment, Absent, Named, Url, Origin, CookieName, Pair, Jar, Method, OriginHeader, Unsent, Null, From, Referrer, Unknown, Known, Request}
+pub use Rattle.shapes.specs.Nouns.{Message, resolve, unsealed, sealed}
 use Rattle.shapes.specs.Words.{spelling}
 
 -- 1:P or 1:S
@@ -92,13 +93,7 @@ question_term h n = list (cons (atom (text "DNSResolve")) (cons (number_term h.0
 abbrev pub event_term : ℕ → Term → Term
 event_term receiver message = list (cons (number_term receiver) (cons (number_term 1) (cons message nil)))
 
--- MESSAGES that go out: a question to the DNS server, a plain request, an encrypted one with its key.
-pub data Message : Type 0 where
-  resolve : Host → DnsNumber → Message
-  unsealed : Address → Request → Message
-  sealed : Address → KeyNumber → Request → Message
-
--- the event that carries a message: to the DNS server, which has address 2, or to a host's address
+-- MESSAGES that go out. The event that carries a message: to the DNS server, which has address 2, or to a host's address
 unfoldable pub event_of : Message → Term
 event_of (resolve h n) = event_term 2 (question_term h n)
 event_of (unsealed a q) = event_term a.0 (request_term q)
@@ -107,10 +102,3 @@ event_of (sealed a k q) = event_term a.0 (sealed_term k q)
 abbrev pub event_text : Option Message → List ℕ
 event_text none = []
 event_text (some m) = write (event_of m)
-
--- what the code's values mean: what goes out, with the request that stands beside it
-abbrev pub message_of : Sent → Request → Option Message
-message_of Silence q = none
-message_of (Resolve h n) q = some (resolve h n)
-message_of (Open a) q = some (unsealed a q)
-message_of (Sealed a k) q = some (sealed a k q)

@@ -42,8 +42,8 @@ pub use Rattle.types.specs.declared.Request.{Request}
 pub use Rattle.types.specs.declared.Sending.{Sending}
 pub use Rattle.types.specs.Perhaps.{Seal}
 pub use Rattle.std.specs.Prelude.{None as Keyless, Some as Keyed}
-pub use Rattle.types.specs.declared.Sent.{Sent}
-pub use Rattle.types.specs.declared.Sent.TheVariants.{Silence, Resolve, Open, Sealed}
+pub use Rattle.types.specs.declared.Message.{Message}
+pub use Rattle.types.specs.declared.Message.TheVariants.{Resolve as resolve, Open as unsealed, Sealed as sealed}
 pub use Rattle.types.specs.declared.commands.Script.{Script}
 pub use Rattle.types.specs.declared.commands.ScriptState.{ScriptState}
 pub use Rattle.types.specs.declared.commands.Target.{Target}
@@ -88,5 +88,3 @@ pub use Rattle.types.specs.declared.refusals.Missing.{Missing}
 pub use Rattle.types.specs.declared.refusals.Missing.TheVariants.{NoWindow, NoDocument, NoQuestion, NoRequest, Mismatch}
 pub use Rattle.types.specs.declared.refusals.Refusal.{Refusal}
 pub use Rattle.types.specs.declared.refusals.Refusal.TheVariants.{BadText, BadShape, Lacking, Stopped, NotFresh, Full, NoRoom, Closed}
-pub use Rattle.types.specs.declared.refusals.Verdict.{Verdict}
-pub use Rattle.types.specs.declared.refusals.Verdict.TheVariants.{Accepted, Refused}

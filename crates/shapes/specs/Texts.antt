@@ -1,15 +1,15 @@
 -- What a text is taken for: refusal 1 where it is not one whole canonical term within the limits, 2 where the term is no item, else the item.
 use Rattle.std.specs.Prelude.{◌≡◌, cond, List, ℕ, ◌≤◌, length}
-use Rattle.std.specs.Prelude.{Option, None as none, Some as some}
+use Rattle.std.specs.Prelude.{Option, None as none, Some as some, Result}
+pub use Rattle.std.specs.Prelude.{Err as unread, Ok as item}
 use Rattle.csexp.specs.Term.{Term, write, levels}
 use Rattle.csexp.specs.Read.{Got, no, got, read}
 use Rattle.csexp.specs.Limits.{item_bytes, item_levels, whole_of}
 use Rattle.shapes.specs.Nouns.{Item, Refusal, BadText, BadShape}
 use Rattle.shapes.specs.Items.{item_of}
 
-pub data Taken : Type 0 where
-  unread : Refusal → Taken
-  item : Item → Taken
+abbrev pub Taken : Type 0
+Taken = Result Item Refusal
 
 abbrev pub shaped : Option Item → Taken
 shaped none = unread BadShape

@@ -9,12 +9,9 @@ use types::WindowNumber;
 pub fn tell(rt: &impl Print, m: &Memory, w: WindowNumber) -> io::Result<()> {
     let mut text = [0u8; 65536];
     let shown = show(m, w, &mut text, 0);
-    let count = shown.count;
-    let verdict = shown.verdict;
-    let refused = number(verdict);
-    rt.write_all(&text[..count])?;
-    if refused != 0 {
-        print!(rt; "{refused}")?;
+    match shown {
+        Ok(count) => rt.write_all(&text[..count])?,
+        Err(_) => print!(rt; "{}", number(shown))?,
     }
     rt.write_all(b"\n")
 }

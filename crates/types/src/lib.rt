@@ -202,11 +202,10 @@ pub struct Sending {
 // The key of a request that went out encrypted; 000's ⊥ is None.
 pub type Seal = Option<KeyNumber>;
 
-// What goes out. The request of the last two stands beside, since an enum holds no array.
+// What goes out: a question to the DNS server, a plain request, an encrypted one with its key.
 #[derive(Clone, Copy)]
-pub enum Sent {
-    Silence,
+pub enum Message {
     Resolve(Host, DnsNumber),
-    Open(Address),
-    Sealed(Address, KeyNumber),
+    Open(Address, Request),
+    Sealed(Address, KeyNumber, Request),
 }

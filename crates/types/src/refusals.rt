@@ -1,5 +1,8 @@
 // Why a step is refused (01 "Refusal numbers").
 
+ghost use Rattle.std.specs.Prelude.{◌≡◌};
+ghost use Rattle.types.specs.declared.refusals.Refusal.TheVariants.{Lacking};
+
 // Which thing isn't there; all are refusal 3.
 #[derive(Clone, Copy)]
 pub enum Missing {
@@ -22,8 +25,10 @@ pub enum Refusal {
     Closed,
 }
 
-#[derive(Clone, Copy)]
-pub enum Verdict {
-    Accepted,
-    Refused(Refusal),
+impl From<Missing> for Refusal {
+    fn from(what: Missing) -> Refusal
+        ensures { result ≡ Lacking what }
+    {
+        Refusal::Lacking(what)
+    }
 }

@@ -34,20 +34,20 @@ pub fn origin_of(d: Document) -> Origin
     }
 }
 
-pub fn active_document(m: &Memory, w: WindowNumber) -> documents::Found
-    ensures { looked result.found result.row ≡ active_document (table documents_in m.now) w }
+pub fn active_document(m: &Memory, w: WindowNumber) -> Option<Document>
+    ensures { result ≡ active_document (table documents_in m.now) w }
 {
     documents::first(m, documents::Which::ActiveIn(w))
 }
 
-pub fn numbered(m: &Memory, n: DocumentNumber) -> documents::Found
-    ensures { looked result.found result.row ≡ document_numbered (table documents_in m.now) n }
+pub fn numbered(m: &Memory, n: DocumentNumber) -> Option<Document>
+    ensures { result ≡ document_numbered (table documents_in m.now) n }
 {
     documents::first(m, documents::Which::NumberIs(n))
 }
 
-pub fn window_numbered(m: &Memory, w: WindowNumber) -> windows::Found
-    ensures { looked result.found result.row ≡ window_numbered (table windows_in m.now) w }
+pub fn window_numbered(m: &Memory, w: WindowNumber) -> Option<Window>
+    ensures { result ≡ window_numbered (table windows_in m.now) w }
 {
     windows::first(m, windows::Which::KeyIs(w))
 }
@@ -105,8 +105,8 @@ pub fn above(m: &Memory, w: WindowNumber) -> Above
 }
 
 // 01's recursive ancestor walk over window rows with a falling step count, used by the navigation rules: n steps at most.
-fn reached_within(n: u32, m: &Memory, w: WindowNumber) -> Top
-    ensures { looked result.found result.window ≡ reached_from n (table windows_in m.now) (table documents_in m.now) w }
+fn reached_within(n: u32, m: &Memory, w: WindowNumber) -> Option<WindowNumber>
+    ensures { result ≡ reached_from n (table windows_in m.now) (table documents_in m.now) w }
 {
     if n == 0 {
         return Top {
@@ -138,8 +138,8 @@ fn reached_within(n: u32, m: &Memory, w: WindowNumber) -> Top
 }
 
 // The top-level window from which a window is reached through active documents.
-pub fn reached(m: &Memory, w: WindowNumber) -> Top
-    ensures { looked result.found result.window ≡ reached_from steps (table windows_in m.now) (table documents_in m.now) w }
+pub fn reached(m: &Memory, w: WindowNumber) -> Option<WindowNumber>
+    ensures { result ≡ reached_from steps (table windows_in m.now) (table documents_in m.now) w }
 {
     reached_within(STEPS, m, w)
 }
@@ -152,8 +152,8 @@ pub fn is_reached(m: &Memory, w: WindowNumber) -> bool
 }
 
 // The active document of a window, if that is reached and the document has the origin of d.
-pub fn of_origin(m: &Memory, d: Document, v: WindowNumber) -> documents::Found
-    ensures { looked result.found result.row ≡ when (is_reached (table windows_in m.now) (table documents_in m.now) v) (with_origin d (active_document (table documents_in m.now) v)) }
+pub fn of_origin(m: &Memory, d: Document, v: WindowNumber) -> Option<Document>
+    ensures { result ≡ when (is_reached (table windows_in m.now) (table documents_in m.now) v) (with_origin d (active_document (table documents_in m.now) v)) }
 {
     let a = active_document(m, v);
     let row = a.row;
@@ -170,8 +170,8 @@ pub fn of_origin(m: &Memory, d: Document, v: WindowNumber) -> documents::Found
 }
 
 // The document with this number, if it is the active one of a reached window.
-pub fn listening(m: &Memory, n: DocumentNumber) -> documents::Found
-    ensures { looked result.found result.row ≡ listens (table windows_in m.now) (table documents_in m.now) (document_numbered (table documents_in m.now) n) }
+pub fn listening(m: &Memory, n: DocumentNumber) -> Option<Document>
+    ensures { result ≡ listens (table windows_in m.now) (table documents_in m.now) (document_numbered (table documents_in m.now) n) }
 {
     let f = numbered(m, n);
     let row = f.row;

@@ -1,8 +1,6 @@
 -- A step: what the program says, then the refusals that are judged of every step alike (01 "Refusal numbers").
 use Rattle.std.specs.Prelude.{Bool, true, false, cond, ◌&&◌, List, [], ◌∷◌, ℕ, leb, eqb, length}
 use Rattle.std.specs.Prelude.{Option}
-use Rattle.types.specs.declared.refusals.Verdict.{Verdict}
-use Rattle.types.specs.declared.refusals.Verdict.TheVariants.{Accepted, Refused}
 use Rattle.tables.specs.Tables.{Table, cap, Tables, no_rows}
 use Rattle.tables.specs.Labels.{window, request, dns, key, document, Label, every, is_fresh}
 use Rattle.shapes.specs.Events.{Message}
@@ -27,6 +25,10 @@ refusal_number NotFresh = 5
 refusal_number Full = 6
 refusal_number NoRoom = 7
 refusal_number Closed = 8
+
+pub data Verdict : Type 0 where
+  Accepted : Verdict
+  Refused : Refusal → Verdict
 
 -- the number of a verdict: that of the refusal, and 0 where the step was accepted
 abbrev pub verdict_number : Verdict → ℕ

@@ -4,8 +4,8 @@ use Rattle.std.specs.Prelude.{Option, None as none, Some as some}
 use Rattle.csexp.specs.Term.{write}
 use Rattle.shapes.specs.Texts.{Taken, unread, item, item_in}
 use Rattle.shapes.specs.Events.{Message, event_of}
-use Rattle.wim.specs.Nouns.{Refusal, NoRoom, Verdict, Accepted, Refused}
-use Rattle.wim.specs.Step.{Browser, Result, declined, accepted, step}
+use Rattle.wim.specs.Nouns.{Refusal, NoRoom}
+use Rattle.wim.specs.Step.{Verdict, Accepted, Refused, Browser, Result, declined, accepted, step}
 
 -- What a step on text gives.
 pub record Returned : Type 0 where

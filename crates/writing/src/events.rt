@@ -1,10 +1,10 @@
 // Questions to the DNS server, and events: 01 "An event is receiver, sender, message; the browser has address 1, its DNS server 2".
 ghost use Rattle.csexp.specs.Puts.{Puts, Writes};
-ghost use Rattle.shapes.specs.Events.{question_term, request_term, sealed_term, event_term, event_text, message_of};
+ghost use Rattle.shapes.specs.Events.{question_term, request_term, sealed_term, event_term, event_text};
 
 use super::requests::{write_request, write_sealed};
 use csexp::write::{close_list, labelled, number, open_list, open_word};
-use types::{Address, DnsNumber, Host, KeyNumber, Request, Sent};
+use types::{Address, DnsNumber, Host, KeyNumber, Message, Request};
 
 // (10:DNSResolve host (3:dns number))
 pub fn write_question(out: &mut [u8], at: usize, host: Host, dns: DnsNumber) -> usize
@@ -56,13 +56,15 @@ pub fn send_sealed(
 }
 
 // What goes out; nothing for a step without a message.
-pub fn write_sent(out: &mut [u8], at: usize, sent: Sent, request: Request) -> usize
-    ensures { Puts (event_text (message_of sent request)) out.old at out.new result }
+pub fn write_sent(out: &mut [u8], at: usize, message: Option<Message>) -> usize
+    ensures { Puts (event_text message) out.old at out.new result }
 {
-    match sent {
-        Sent::Silence => at,
-        Sent::Resolve(host, dns) => send_question(out, at, host, dns),
-        Sent::Open(address) => send_open(out, at, address, request),
-        Sent::Sealed(address, key) => send_sealed(out, at, address, key, request),
+    match message {
+        None => at,
+        Some(Message::Resolve(host, dns)) => send_question(out, at, host, dns),
+        Some(Message::Open(address, request)) => send_open(out, at, address, request),
+        Some(Message::Sealed(address, key, request)) => {
+            send_sealed(out, at, address, key, request)
+        }
     }
 }

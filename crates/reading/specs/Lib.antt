@@ -1,2 +1,0 @@
--- What reading a text answers.
-pub mod Readings
