@@ -5,8 +5,8 @@ ghost use Rattle.std.specs.Prelude.{◌≡◌, ℕ};
 ghost use Rattle.std.proofs.Common.{refl, rules};
 ghost use Rattle.tables.specs.Tables.{windows, key_of, cmp};
 ghost use Rattle.tables.specs.Labels.{mentions, clean};
-ghost use Rattle.layouts.specs.Rows.{window_of};
 ghost use Rattle.rows.proofs.Clean.{clean_where_none};
+ghost use Rattle.layouts.specs.Rows.{window_of};
 
 use rows::{Labelled, Table};
 use sorted::Order;
