@@ -37,11 +37,11 @@ pub enum Towards {
 fn beside(m: &Memory, w: WindowNumber, d: Document, q: Towards) -> Option<Document>
     ensures { result ≡ beside q w (table documents_in m.now) d }
 {
-    let place = d.place;
-    match q {
-        Towards::Before => documents::first(m, documents::Which::BeforeIn(w, place)),
-        Towards::After => documents::first(m, documents::Which::AfterIn(w, place)),
-    }
+    let f = match q {
+        Towards::Before => documents::first(m, documents::Which::BeforeIn(w, d.place)),
+        Towards::After => documents::first(m, documents::Which::AfterIn(w, d.place)),
+    };
+    f.found.then_some(f.row)
 }
 
 // Line 2: from the place of the active document to that of the document beside it, if there is one.
