@@ -11,8 +11,8 @@ loop-i-init c = gather_with_room 33 (search rules) (omega arith) c.size-i-end.en
 pub loop-i-preserved : goal.loop-i-preserved
 loop-i-preserved c =
     elim c.if-is_under.branch [
-      then-is_under w ↦ rw (w.rows-is, w.count-is) (gather_takes c.loop-i.invariant c.row-row.ensures c.loop-i-test.true (sym c.is_under.ensures ∙ w.if-is_under.true))
-    | else-is_under w ↦ rw (w.rows-is, w.count-is) (gather_skips c.loop-i.invariant c.row-row.ensures c.loop-i-test.true (sym c.is_under.ensures ∙ w.if-is_under.false))
+      | then-is_under w ↦ rw (w.rows-is, w.count-is) (gather_takes c.loop-i.invariant c.row-row.ensures c.loop-i-test.true (sym c.is_under.ensures ∙ w.if-is_under.true))
+      | else-is_under w ↦ rw (w.rows-is, w.count-is) (gather_skips c.loop-i.invariant c.row-row.ensures c.loop-i-test.true (sym c.is_under.ensures ∙ w.if-is_under.false))
     ]
 
 pub returns : goal.returns
