@@ -33,8 +33,11 @@ use types::{DocumentNumber, Host, Origin, Protocol, WindowNumber};
 fn is_guarded(m: &Memory, h: Host, c: Cookie) -> bool
     ensures { result ≡ guarded (keep (λ (o : HostCookie). same_host o.host h) (table host_cookies_in m.now)) c }
 {
-    Cookies::first(m, |old| old.host == h && old.cookie.name == c.name && old.cookie.httponly)
-        .is_some()
+    Cookies::first(
+        m,
+        |old| old.host == h && old.cookie.name == c.name && old.cookie.httponly,
+    )
+    .is_some()
 }
 
 // Definition 36: which of a script's cookies are stored, where h is the host of the script's document.
