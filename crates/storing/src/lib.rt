@@ -70,13 +70,11 @@ pub fn store_local(m: &mut Memory, o: Origin, v: Stored) -> bool
         LocalStorage::remove(m, o);
         true
     } else {
-        LocalStorage::put(
-            m,
-            LocalValue {
-                origin: o,
-                value: v,
-            },
-        )
+        let row = LocalValue {
+            origin: o,
+            value: v,
+        };
+        LocalStorage::put(m, row)
     }
 }
 
@@ -88,14 +86,12 @@ pub fn store_session(m: &mut Memory, o: Origin, top: WindowNumber, v: Stored) ->
         SessionStorage::remove(m, (o, top));
         true
     } else {
-        SessionStorage::put(
-            m,
-            SessionValue {
-                origin: o,
-                top,
-                value: v,
-            },
-        )
+        let row = SessionValue {
+            origin: o,
+            top,
+            value: v,
+        };
+        SessionStorage::put(m, row)
     }
 }
 
