@@ -1,5 +1,5 @@
 -- One more than the document has, and there are few inputs.
-use Rattle.std.proofs.Common.{rules, arith, ap, ◌∙◌, add-one, ℕ, Bool, ◌≡◌}
+use Rattle.std.proofs.Common.{rules, arith, ap, ◌∙◌, add-one, ℕ, Bool}
 use Prim.Native.Nat.{suc}
 use Rattle.types.specs.declared.rows.Input.{Input}
 use Rattle.tables.specs.Tables.{inputs}
