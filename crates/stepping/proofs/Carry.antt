@@ -9,6 +9,8 @@ use native.Mathlib.Omega.{arith}
 use borrow.Author.Tests.{leb-true, leb-false, lt-leb}
 use lib.Dec.{leb, eqb}
 use lib.ListN.{length, length-map}
+use Rattle.std.proofs.Common.{append_assoc}
+use Rattle.std.proofs.Math.Bool.{and_assoc, and_comm, and-true}
 use Rattle.sorted.specs.Table.{In, put, sift, keep, insert}
 use Rattle.sorted.proofs.Tests.{and_left, and_right, and_both}
 use Rattle.sorted.proofs.Edits.{puts_only, length_puts}
@@ -50,21 +52,7 @@ apart-split (t ∷ n) m ts e =
     let z = apart-split n m ts (and_right (apart_from t ts) (apart (n ++ m) ts) e) in
     (and_both (apart_from t ts) (apart n ts) (and_left (apart_from t ts) (apart (n ++ m) ts) e) z.0, z.1)
 
-append_assoc : {A : Type 0} (q p ts : List A) → (q ++ p) ++ ts ≡ q ++ (p ++ ts)
-append_assoc [] p ts = refl
-append_assoc (x ∷ q) p ts = ap (x ∷◌) (append_assoc q p ts)
-
 -- ONE AFTER THE OTHER.
-and_assoc : (a b x : Bool) → (b && (a && x)) ≡ ((b && a) && x)
-and_assoc a true x = refl
-and_assoc a false x = refl
-
-and-turn : (a b : Bool) → (b && a) ≡ (a && b)
-and-turn true true = refl
-and-turn true false = refl
-and-turn false true = refl
-and-turn false false = refl
-
 -- what changes nothing
 pub carries_same : {g : Tables → Tables} {ds : List Table} → ((w : Tables) → g w ≡ w) → (m : List ℕ) → Carries g [] ds m m true
 carries_same e m = record { carry = λ ts w x a h. subst (λ (b : Tables). Holds ts b m x) (sym (e w)) h }
@@ -78,15 +66,12 @@ carries-then {f} {g} {p} {q} {n} {m} {k} {l} {o} {a} {b} z x y = record { carry 
     go : (ts : List Table) (w : Tables) (v : Bool) → apart (n ++ m) ts ≡ true → Holds ts w k v → Holds ((q ++ p) ++ ts) (g (f w)) o ((a && b) && v)
     go ts w v s h =
         let i = apart-split n m ts s in
-        subst (λ (c : Bool). Holds ((q ++ p) ++ ts) (g (f w)) o c) (and_assoc a b v ∙ ap (◌&& v) (and-turn a b))
+        subst (λ (c : Bool). Holds ((q ++ p) ++ ts) (g (f w)) o c) (sym (and_assoc b a v) ∙ ap (◌&& v) (and_comm b a))
         (subst (λ (us : List Table). Holds us (g (f w)) o (b && (a && v))) (sym (append_assoc q p ts)) (y.carry (p ++ ts) (f w) (a && v) (apart_append m p ts z i.1) (x.carry ts w v i.0 h)))
 
 -- the room said in another way
 pub room_as : {f : Tables → Tables} {p n : List Table} {k l : List ℕ} {a b : Bool} → a ≡ b → Carries f p n k l a → Carries f p n k l b
 room_as {f} {p} {n} {k} {l} e = subst (λ (x : Bool). Carries f p n k l x) e
-
-pub and-true : (a : Bool) → (a && true) ≡ a
-and-true a = and-turn true a
 
 -- a change, and behind it one that wants no room
 pub then_roomy : {f g : Tables → Tables} {p q n m : List Table} {k l o : List ℕ} {a : Bool} → apart m p ≡ true → Carries f p n k l a → Carries g q m l o true → Carries (λ w. g (f w)) (q ++ p) (n ++ m) k o a
@@ -182,7 +167,7 @@ apart_none [] = refl
 apart_none (t ∷ ts) = apart_none ts
 
 pub held : {f : Tables → Tables} {p n : List Table} {k l : List ℕ} {a : Bool} → Carries f p n k l a → Holds (p ++ []) (f (view k)) l a
-held {f} {p} {n} {k} {l} {a} x = subst (λ (c : Bool). Holds (p ++ []) (f (view k)) l c) (and-turn true a) (x.carry [] (view k) true (apart_none n) (record { rows = λ _. refl; long = λ z. absurd (true≢false z) }))
+held {f} {p} {n} {k} {l} {a} x = subst (λ (c : Bool). Holds (p ++ []) (f (view k)) l c) (and-true a) (x.carry [] (view k) true (apart_none n) (record { rows = λ _. refl; long = λ z. absurd (true≢false z) }))
 
 -- THE END: whether the tables fit is what was said of room.
 pub room_fits : {ts : List Table} {w : Tables} {m : List ℕ} {room : Bool} → Holds ts w m room → fits w ≡ room

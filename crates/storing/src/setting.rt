@@ -19,7 +19,7 @@ pub fn kept<F: Fn(Cookie, usize) -> bool>(few: SetCookies, test: F) -> SetCookie
 {
     let mut rows = few.rows;
     let mut count = 0;
-    for i in 0..sorted::used(few.count, FEW) {
+    for i in 0..few.count.min(FEW) {
         let c = few.rows[i];
         if test(c, i + 1) {
             rows[count] = c;
@@ -52,8 +52,8 @@ pub fn permitted(few: SetCookies, script: bool, p: Protocol) -> SetCookies
 fn named_from(few: SetCookies, from: usize, name: CookieName) -> bool
     ensures { result ≡ named name (drop from (cookies_in few)) }
 {
-    for i in from..sorted::used(few.count, FEW) {
-        if labels::same_name(few.rows[i].name, name) {
+    for i in from..few.count.min(FEW) {
+        if few.rows[i].name == name {
             return true;
         }
     }

@@ -1,5 +1,5 @@
 -- None of the five is given.
-use Rattle.std.proofs.Common.{rules, ◌∙◌}
+use Rattle.std.proofs.Common.{rules}
 use Rattle.stepping.proofs.Ways.{wants_none}
 use Rattle.stepping.proofs.brings_none.Goals as goal
 

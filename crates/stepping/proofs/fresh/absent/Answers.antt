@@ -1,7 +1,7 @@
 -- Table by table.
 use Rattle.std.proofs.Common.{◌≡◌, refl}
 use mathlib.Core.Bool.{◌&&◌}
-use Rattle.tables.specs.Tables.{windows, documents, session_storage, inputs, pending_dns, pending_requests}
+use Rattle.tables.specs.Tables.{windows, documents, session_storage, inputs, pending_dns}
 use Rattle.browser.specs.View.{view}
 use Rattle.browser.proofs.Tests.{joined, parted}
 use Rattle.stepping.proofs.Spare.{silent, fresh-tables}
