@@ -98,6 +98,6 @@ none-fresh b (l ∷ ls) = go (eqb l.1 0) (none-fresh b ls)
     go true e = e
     go false e = refl
 
-pub wants_none : (f : Fresh) (b : Tables) → (eqb f.window.0 0 && (eqb f.request.0 0 && (eqb f.dns.0 0 && (eqb f.key.0 0 && eqb f.document.0 0)))) ≡ ready wants_nothing f b
+pub wants_none : (f : Fresh) (b : Tables) {x : Bool} → x ≡ (eqb f.window.0 0 && (eqb f.request.0 0 && (eqb f.dns.0 0 && (eqb f.key.0 0 && eqb f.document.0 0)))) → x ≡ ready wants_nothing f b
 unfolding none_of
-wants_none f b = let e = none-exactly (numbers f) in let g = none-fresh b (numbers f) in five (eqb f.window.0 0) (eqb f.request.0 0) (eqb f.dns.0 0) (eqb f.key.0 0) (eqb f.document.0 0) ∙ g ∙ ap (◌&& all_fresh b (fresh_labels f)) e
+wants_none f b e = e ∙ five (eqb f.window.0 0) (eqb f.request.0 0) (eqb f.dns.0 0) (eqb f.key.0 0) (eqb f.document.0 0) ∙ none-fresh b (numbers f) ∙ ap (◌&& all_fresh b (fresh_labels f)) (none-exactly (numbers f))
