@@ -11,8 +11,8 @@ pub fn one_of(n: DocumentNumber, s: DocumentNumbers) -> bool
     s.rows[..s.count.min(s.rows.len())].contains(&n)
 }
 
-pub fn window_one_of(n: WindowNumber, s: WindowNumbers) -> bool
-    ensures { result ≡ window_one_of n (window_numbers s) }
+pub fn window_one_of(v: WindowNumber, s: WindowNumbers) -> bool
+    ensures { result ≡ window_one_of v (window_numbers s) }
 {
-    s.rows[..s.count.min(s.rows.len())].contains(&n)
+    s.rows[..s.count.min(s.rows.len())].contains(&v)
 }

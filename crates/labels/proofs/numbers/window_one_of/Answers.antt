@@ -5,4 +5,4 @@ use Rattle.labels.proofs.Laws.{contains-window_one_of}
 use Rattle.labels.proofs.numbers.window_one_of.Goals as goal
 
 pub returns : goal.returns
-returns c = c.contains.ensures.value ∙ contains-window_one_of c.args.s.count 33 _ c.args.n c.args.s.rows (search mapped) c.min.ensures
+returns c = c.contains.ensures.value ∙ contains-window_one_of c.args.s.count 33 _ c.args.v c.args.s.rows (search mapped) c.min.ensures
