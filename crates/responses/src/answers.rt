@@ -18,26 +18,22 @@ use types::{Fresh, KeyNumber};
 pub fn plain_answer(m: &mut Memory, a: Answer, few: SetCookies, f: Fresh) -> Performed
     ensures { Performs (ask (keyless a.number) (plain_answer a (cookies_in few))) f m.old m.new result }
 {
-    let n = a.number;
-    let found = pending_requests::first(m, pending_requests::Which::KeylessNumber(n));
-    if found.found {
-        let w = found.row;
-        return process_response(m, w, a, few, f);
+    let found = pending_requests::first(m, pending_requests::Which::KeylessNumber(a.number));
+    if !found.found {
+        return Err(Refusal::Lacking(Missing::NoRequest));
     }
-    stepping::refuse(Refusal::Lacking(Missing::NoRequest))
+    let w = found.row;
+    process_response(m, w, a, few, f)
 }
 
 // A9:57, 58: what was encrypted for a request must carry its number.
 fn opened(m: &mut Memory, w: Waiting, a: Answer, few: SetCookies, f: Fresh) -> Performed
     ensures { Performs (encrypted_answer a (cookies_in few) (some w)) f m.old m.new result }
 {
-    let q = w.request;
-    let n = q.number;
-    let own = a.number;
-    if own.0 == n.0 {
-        return process_response(m, w, a, few, f);
+    if a.number != w.request.number {
+        return Err(Refusal::Lacking(Missing::Mismatch));
     }
-    stepping::refuse(Refusal::Lacking(Missing::Mismatch))
+    process_response(m, w, a, few, f)
 }
 
 // A9:55 to 60: found by its key.
@@ -51,9 +47,9 @@ pub fn encrypted_answer(
     ensures { Performs (ask (keyed k) (encrypted_answer a (cookies_in few))) f m.old m.new result }
 {
     let found = pending_requests::first(m, pending_requests::Which::HasKey(k));
-    if found.found {
-        let w = found.row;
-        return opened(m, w, a, few, f);
+    if !found.found {
+        return Err(Refusal::Lacking(Missing::NoRequest));
     }
-    stepping::refuse(Refusal::Lacking(Missing::NoRequest))
+    let w = found.row;
+    opened(m, w, a, few, f)
 }

@@ -13,30 +13,24 @@ use types::cookies::SetCookies;
 use types::rows::{StrictHost, Waiting};
 
 // A8:5, 6
-fn put_strict_if(m: &mut Memory, h: Host, there: bool) -> bool
-    ensures { Carries (apply sts (cond there (put (record { host = h }) ∷ []) [])) (sts ∷ []) [] m.old m.new result }
+fn put_strict_if(m: &mut Memory, host: Host, there: bool) -> bool
+    ensures { Carries (apply sts (cond there (put (record { host = host }) ∷ []) [])) (sts ∷ []) [] m.old m.new result }
 {
     if there {
-        let row = StrictHost { host: h };
-        return sts::put(m, row);
+        sts::put(m, StrictHost { host })
+    } else {
+        true
     }
-    true
 }
 
 // Cookies with a bad prefix are left out (A8:2 to 4); the header Strict-Transport-Security counts over S alone.
 pub fn act_on_headers(m: &mut Memory, w: Waiting, a: Answer, few: SetCookies) -> bool
     ensures { Carries (acted w a (cookies_in few)) (sts ∷ cookies ∷ []) (pending_requests ∷ []) m.old m.new result }
 {
-    let q = w.request;
-    let n = q.number;
-    let h = q.host;
-    let u = w.url;
-    let p = u.protocol;
-    pending_requests::keep(m, pending_requests::Which::KeyIsNot(n));
-    let good = storing::taken(few, p);
-    let stored = storing::put_cookies(m, h, good);
-    let over = labels::is_secure(p);
-    let there = sorted::both(a.strict, over);
-    let strict = put_strict_if(m, h, there);
-    sorted::both(stored, strict)
+    let over = w.url.protocol;
+    let host = w.request.host;
+    pending_requests::keep(m, pending_requests::Which::KeyIsNot(w.request.number));
+    let stored = storing::put_cookies(m, host, storing::taken(few, over));
+    let strict = put_strict_if(m, host, a.strict && labels::is_secure(over));
+    stored && strict
 }

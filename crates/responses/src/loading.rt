@@ -1,16 +1,14 @@
 // 000 A8:35 to 45: a document is loaded behind the active one of a window; those behind that go, with everything under them.
 ghost use Rattle.std.specs.Prelude.{◌≡◌, [], ◌∷◌, map, suc, length};
-ghost use Rattle.sorted.specs.Table.{looked};
 ghost use Rattle.types.specs.Lists.{document_numbers};
 ghost use Rattle.tables.specs.Tables.{windows, documents, inputs};
 ghost use Rattle.memory.specs.Rows.{table};
 ghost use Rattle.layouts.specs.Tables.{windows_in, documents_in};
-ghost use Rattle.wim.specs.Walks.{documents_of};
+ghost use Rattle.wim.specs.Walks.{documents_of, active_document, removal};
 ghost use Rattle.wim.specs.History.{place_of};
 ghost use Rattle.wim.specs.Response.{later_than, up_to, new_document};
 ghost use Rattle.stepping.specs.Holds.{Carries};
 ghost use Rattle.documents.specs.Which.{number_of};
-ghost use Rattle.removing.specs.Gone.{going};
 ghost use Rattle.responses.specs.Entered.{Finds, entered};
 
 use memory::Memory;
@@ -29,60 +27,52 @@ pub struct Spot {
 }
 
 // The place of the active document. Places begin with 1: 0 is that of none.
-fn place_of(current: documents::Found) -> u32
-    ensures { result ≡ place_of (looked current.found current.row) }
+fn place_of(current: Option<Document>) -> u32
+    ensures { result ≡ place_of current }
 {
-    if current.found {
-        return current.row.place;
-    }
-    0
+    current.map_or(0, |d| d.place)
 }
 
 // The documents of the window v behind the active one.
-fn later_than(m: &Memory, v: WindowNumber, current: documents::Found) -> DocumentNumbers
-    ensures { document_numbers result ≡ map number_of (later_than (looked current.found current.row) (documents_of (table documents_in m.now) v)) }
+fn later_than(m: &Memory, v: WindowNumber, current: Option<Document>) -> DocumentNumbers
+    ensures { document_numbers result ≡ map number_of (later_than current (documents_of (table documents_in m.now) v)) }
 {
-    if current.found {
-        let place = current.row.place;
-        return documents::numbers(m, documents::Which::LaterIn(v, place));
-    }
-    DocumentNumbers {
-        rows: [DocumentNumber(0); 64],
-        count: 0,
+    match current {
+        None => DocumentNumbers {
+            rows: [DocumentNumber(0); 64],
+            count: 0,
+        },
+        Some(d) => documents::numbers(m, documents::Which::LaterIn(v, d.place)),
     }
 }
 
 // How many there are up to the active one: all, where none is.
-fn up_to(m: &Memory, v: WindowNumber, current: documents::Found) -> usize
-    ensures { result ≡ length (up_to (looked current.found current.row) (documents_of (table documents_in m.now) v)) }
+fn up_to(m: &Memory, v: WindowNumber, current: Option<Document>) -> usize
+    ensures { result ≡ length (up_to current (documents_of (table documents_in m.now) v)) }
 {
-    if current.found {
-        let place = current.row.place;
-        return documents::tally(m, documents::Which::UpToIn(v, place));
+    match current {
+        None => documents::tally(m, documents::Which::InWindow(v)),
+        Some(d) => documents::tally(m, documents::Which::UpToIn(v, d.place)),
     }
-    documents::tally(m, documents::Which::InWindow(v))
 }
 
 // The place behind these.
-fn place_behind(m: &Memory, v: WindowNumber, current: documents::Found) -> u32
-    ensures { result ≡ suc (length (up_to (looked current.found current.row) (documents_of (table documents_in m.now) v))) }
+fn place_behind(m: &Memory, v: WindowNumber, current: Option<Document>) -> u32
+    ensures { result ≡ suc (length (up_to current (documents_of (table documents_in m.now) v))) }
 {
-    let n = up_to(m, v, current);
-    (n as u32) + 1
+    up_to(m, v, current) as u32 + 1
 }
 
 pub fn look(m: &Memory, v: WindowNumber) -> Spot
-    ensures { Finds (table windows_in m.now) (table documents_in m.now) (documents_of (table documents_in m.now) v) result }
+    ensures {
+        Finds (documents_of (table documents_in m.now) v) (removal (table windows_in m.now) (table documents_in m.now) (map number_of (later_than (active_document (table documents_in m.now) v) (documents_of (table documents_in m.now) v)))) result
+    }
 {
     let current = walks::active_document(m, v);
-    let was = place_of(current);
-    let place = place_behind(m, v, current);
-    let later = later_than(m, v, current);
-    let gone = removing::removal(m, later);
     Spot {
-        was: was,
-        place: place,
-        gone: gone,
+        was: place_of(current),
+        place: place_behind(m, v, current),
+        gone: removing::removal(m, later_than(m, v, current)),
     }
 }
 
@@ -98,31 +88,24 @@ pub fn new_document(
 ) -> Document
     ensures { result ≡ new_document v place n.0 w a script state }
 {
-    let url = w.url;
-    let policy = a.policy;
-    let q = w.request;
-    let referrer = q.referrer;
     Document {
         window: v,
-        place: place,
+        place,
         number: n,
-        location: url,
-        policy: policy,
-        referrer: referrer,
-        script: script,
-        state: state,
+        location: w.url,
+        policy: a.policy,
+        referrer: w.request.referrer,
+        script,
+        state,
         active: true,
     }
 }
 
 // A8:41 to 44
-pub fn enter(m: &mut Memory, gone: Removal, was: u32, row: Document) -> bool
-    ensures { Carries (entered (going gone) was row) (documents ∷ []) (windows ∷ documents ∷ inputs ∷ []) m.old m.new result }
+pub fn enter(m: &mut Memory, spot: Spot, row: Document) -> bool
+    ensures { Carries (entered spot row) (documents ∷ []) (windows ∷ documents ∷ inputs ∷ []) m.old m.new result }
 {
-    let ws = gone.windows;
-    let ds = gone.documents;
-    let v = row.window;
-    removing::remove(m, ws, ds);
-    documents::revise(m, documents::Change::SetActive(v, was, false));
+    removing::remove(m, spot.gone.windows, spot.gone.documents);
+    documents::revise(m, documents::Change::SetActive(row.window, spot.was, false));
     documents::put(m, row)
 }
