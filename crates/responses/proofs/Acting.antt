@@ -10,12 +10,8 @@ use Rattle.sorted.specs.Table.{keep, put, drop}
 use Rattle.tables.specs.Tables.{cookies, pending_requests, sts, is_secure, apply}
 use Rattle.wim.specs.Cookies.{bad_prefix, store_all, add_cookies}
 use Rattle.stepping.specs.Holds.{Carries}
-use Rattle.stepping.proofs.Carry.{unedited, carries_same, and-puts, carries-then, room_as}
+use Rattle.stepping.proofs.Carry.{carries-then, room_as}
 use Rattle.responses.specs.Acted.{acted}
-
--- a host is put in only where the header says so
-pub no_strict : (m : List ℕ) → Carries (apply sts []) (sts ∷ []) [] m m true
-no_strict m = and-puts sts (carries_same (unedited sts) m)
 
 pub acts : (w : Waiting) (a : Answer) (new good : List Cookie) (there : Bool) {k l m n : List ℕ} {x y r : Bool}
     → Carries (apply pending_requests (drop w.request.number.0 ∷ [])) [] (pending_requests ∷ []) k l true

@@ -1,5 +1,6 @@
 -- What is kept and counted of a window's history, over all documents at once; and how many there may be.
-use mathlib.Core.Path.{◌≡◌, refl, sym, subst}
+use mathlib.Core.Path.{◌≡◌, sym, subst}
+use mathlib.Core.Bool.{◌&&◌}
 use mathlib.Core.List.{List}
 use Rattle.std.specs.Prelude.{Option, None as none, Some as some}
 use Prim.Native.Nat.{ℕ, ◌≤◌}
@@ -16,23 +17,18 @@ use Rattle.layouts.specs.Tables.{documents_in}
 use Rattle.wim.specs.Walks.{documents_of}
 use Rattle.wim.specs.Response.{later_than, up_to}
 use Rattle.stepping.proofs.Carry.{kept-few}
-use Rattle.documents.specs.declared.tests.Which.TheVariants.{InWindow, LaterIn, UpToIn}
-use Rattle.documents.specs.Which.{passes}
 
 module _ (v : WindowNumber) (d : Document) (ds : List Document) where
-  pub kept-later : keep (passes (LaterIn v d.place)) ds ≡ later_than (some d) (documents_of ds v)
+  pub kept-later : keep (λ (e : Document). same_window e.window v && ltb d.place e.place) ds ≡ later_than (some d) (documents_of ds v)
   unfolding documents_of
   kept-later = sym (keep-both (λ (e : Document). same_window e.window v) (λ (e : Document). ltb d.place e.place) ds)
 
-  pub kept-up-to : keep (passes (UpToIn v d.place)) ds ≡ up_to (some d) (documents_of ds v)
+  pub kept-up-to : keep (λ (e : Document). same_window e.window v && leb e.place d.place) ds ≡ up_to (some d) (documents_of ds v)
   unfolding documents_of
   kept-up-to = sym (keep-both (λ (e : Document). same_window e.window v) (λ (e : Document). leb e.place d.place) ds)
 
-pub kept-all : (v : WindowNumber) (ds : List Document) → keep (passes (InWindow v)) ds ≡ up_to none (documents_of ds v)
-unfolding documents_of
-kept-all v ds = refl
-
 -- no more than the table has room for
 pub few-up-to : (current : Option Document) (v : WindowNumber) (m : List ℕ) → length (up_to current (documents_of (table documents_in m) v)) ≤ 64
-few-up-to none v m = subst (λ (l : List Document). length l ≤ 64) (kept-all v (table documents_in m)) (kept-few documents (passes (InWindow v)) m)
-few-up-to (some d) v m = subst (λ (l : List Document). length l ≤ 64) (kept-up-to v d (table documents_in m)) (kept-few documents (passes (UpToIn v d.place)) m)
+unfolding documents_of
+few-up-to none v m = kept-few documents (λ (e : Document). same_window e.window v) m
+few-up-to (some d) v m = subst (λ (l : List Document). length l ≤ 64) (kept-up-to v d (table documents_in m)) (kept-few documents (λ (e : Document). same_window e.window v && leb e.place d.place) m)

@@ -1,5 +1,5 @@
 -- The course of an answer in these tables, and the code's value for it.
-use Rattle.std.specs.Prelude.{◌≡◌, map, suc}
+use Rattle.std.specs.Prelude.{◌≡◌, suc}
 use Rattle.std.specs.Prelude.{Option, None as none, Some as some}
 use Rattle.types.specs.Perhaps.{Matching}
 use Rattle.types.specs.declared.Reference.{Reference}
@@ -12,20 +12,18 @@ use Rattle.types.specs.declared.answers.Body.TheVariants.{Number, Page}
 use Rattle.types.specs.declared.rows.Document.{Document}
 use Rattle.types.specs.declared.rows.News.TheVariants.{Answered}
 use Rattle.tables.specs.Tables.{Tables}
-use Rattle.wim.specs.Walks.{active_among}
-use Rattle.wim.specs.Program.{observed, reached, history, listening, arrived, under}
-use Rattle.wim.specs.Response.{where_to, later_than, Course, followed, loaded, handed, nothing_more}
+use Rattle.wim.specs.Program.{observed, reached, history, listening, arrived}
+use Rattle.wim.specs.Response.{where_to, Course, followed, loaded, handed, nothing_more}
 use Rattle.responses.specs.declared.courses.Course.{Course as Way}
 use Rattle.responses.specs.declared.courses.Course.TheVariants.{Followed, Loaded, Handed, NothingMore}
 use Rattle.responses.specs.declared.loading.Spot.{Spot}
-use Rattle.responses.specs.Entered.{Finds}
+use Rattle.responses.specs.Entered.{behind, Finds}
 
 -- THE COURSE, of what is observed in the tables.
 -- of a window's answer without a redirect
 abbrev pub body_at : Tables → WindowNumber → Body → Course
 body_at b v (Number m) = nothing_more
-body_at b v (Page script state) =
-    loaded v (observed (history v) b) (observed (under (map (λ (d : Document). d.number) (later_than (active_among (observed (history v) b)) (observed (history v) b)))) b) script state
+body_at b v (Page script state) = loaded v (observed (history v) b) (behind v b) script state
 
 -- of a window's answer
 abbrev pub window_at : Tables → WindowNumber → Option WindowNumber → Option Url → Body → Course

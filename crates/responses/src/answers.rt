@@ -7,6 +7,8 @@ ghost use Rattle.stepping.specs.Performs.{Performs};
 
 use crate::responses::process_response;
 use memory::Memory;
+use pending_requests::PendingRequests;
+use rows::Table;
 use stepping::Performed;
 use types::answers::Answer;
 use types::cookies::SetCookies;
@@ -18,11 +20,9 @@ use types::{Fresh, KeyNumber};
 pub fn plain_answer(m: &mut Memory, a: Answer, few: SetCookies, f: Fresh) -> Performed
     ensures { Performs (ask (keyless a.number) (plain_answer a (cookies_in few))) f m.old m.new result }
 {
-    let found = pending_requests::first(m, pending_requests::Which::KeylessNumber(a.number));
-    if !found.found {
+    let Some(w) = PendingRequests::first(m, |h| h.request == a.number && h.seal.is_none()) else {
         return Err(Refusal::Lacking(Missing::NoRequest));
-    }
-    let w = found.row;
+    };
     process_response(m, w, a, few, f)
 }
 
@@ -46,10 +46,8 @@ pub fn encrypted_answer(
 ) -> Performed
     ensures { Performs (ask (keyed k) (encrypted_answer a (cookies_in few))) f m.old m.new result }
 {
-    let found = pending_requests::first(m, pending_requests::Which::HasKey(k));
-    if !found.found {
+    let Some(w) = PendingRequests::first(m, |h| h.seal == Some(k)) else {
         return Err(Refusal::Lacking(Missing::NoRequest));
-    }
-    let w = found.row;
+    };
     opened(m, w, a, few, f)
 }

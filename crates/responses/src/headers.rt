@@ -7,17 +7,20 @@ ghost use Rattle.stepping.specs.Holds.{Carries};
 ghost use Rattle.responses.specs.Acted.{acted};
 
 use memory::Memory;
-use types::Host;
+use pending_requests::PendingRequests;
+use rows::Table;
+use sts::Sts;
 use types::answers::Answer;
 use types::cookies::SetCookies;
 use types::rows::{StrictHost, Waiting};
+use types::{Host, Protocol};
 
 // A8:5, 6
 fn put_strict_if(m: &mut Memory, host: Host, there: bool) -> bool
     ensures { Carries (apply sts (cond there (put (record { host = host }) ∷ []) [])) (sts ∷ []) [] m.old m.new result }
 {
     if there {
-        sts::put(m, StrictHost { host })
+        Sts::put(m, StrictHost { host })
     } else {
         true
     }
@@ -29,8 +32,8 @@ pub fn act_on_headers(m: &mut Memory, w: Waiting, a: Answer, few: SetCookies) ->
 {
     let over = w.url.protocol;
     let host = w.request.host;
-    pending_requests::keep(m, pending_requests::Which::KeyIsNot(w.request.number));
+    PendingRequests::remove(m, w.request.number);
     let stored = storing::put_cookies(m, host, storing::taken(few, over));
-    let strict = put_strict_if(m, host, a.strict && labels::is_secure(over));
+    let strict = put_strict_if(m, host, a.strict && over == Protocol::Secure);
     stored && strict
 }

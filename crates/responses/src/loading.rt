@@ -3,16 +3,20 @@ ghost use Rattle.std.specs.Prelude.{◌≡◌, [], ◌∷◌, map, suc, length};
 ghost use Rattle.types.specs.Lists.{document_numbers};
 ghost use Rattle.tables.specs.Tables.{windows, documents, inputs};
 ghost use Rattle.memory.specs.Rows.{table};
-ghost use Rattle.layouts.specs.Tables.{windows_in, documents_in};
-ghost use Rattle.wim.specs.Walks.{documents_of, active_document, removal};
+ghost use Rattle.layouts.specs.Tables.{documents_in};
+ghost use Rattle.wim.specs.Walks.{documents_of};
+ghost use Rattle.wim.specs.Program.{observed, history};
 ghost use Rattle.wim.specs.History.{place_of};
 ghost use Rattle.wim.specs.Response.{later_than, up_to, new_document};
+ghost use Rattle.browser.specs.View.{view};
 ghost use Rattle.stepping.specs.Holds.{Carries};
 ghost use Rattle.documents.specs.Which.{number_of};
-ghost use Rattle.responses.specs.Entered.{Finds, entered};
+ghost use Rattle.responses.specs.Entered.{behind, Finds, entered};
 
+use documents::Documents;
 use memory::Memory;
 use removing::told::Removal;
+use rows::Table;
 use types::answers::Answer;
 use types::commands::{Script, ScriptState};
 use types::rows::{Document, Waiting};
@@ -42,7 +46,7 @@ fn later_than(m: &Memory, v: WindowNumber, current: Option<Document>) -> Documen
             rows: [DocumentNumber(0); 64],
             count: 0,
         },
-        Some(d) => documents::numbers(m, documents::Which::LaterIn(v, d.place)),
+        Some(d) => documents::numbers(m, |e| e.window == v && d.place < e.place),
     }
 }
 
@@ -51,8 +55,8 @@ fn up_to(m: &Memory, v: WindowNumber, current: Option<Document>) -> usize
     ensures { result ≡ length (up_to current (documents_of (table documents_in m.now) v)) }
 {
     match current {
-        None => documents::tally(m, documents::Which::InWindow(v)),
-        Some(d) => documents::tally(m, documents::Which::UpToIn(v, d.place)),
+        None => Documents::tally(m, |e| e.window == v),
+        Some(d) => Documents::tally(m, |e| e.window == v && e.place <= d.place),
     }
 }
 
@@ -64,9 +68,7 @@ fn place_behind(m: &Memory, v: WindowNumber, current: Option<Document>) -> u32
 }
 
 pub fn look(m: &Memory, v: WindowNumber) -> Spot
-    ensures {
-        Finds (documents_of (table documents_in m.now) v) (removal (table windows_in m.now) (table documents_in m.now) (map number_of (later_than (active_document (table documents_in m.now) v) (documents_of (table documents_in m.now) v)))) result
-    }
+    ensures { Finds (observed (history v) (view m.now)) (behind v (view m.now)) result }
 {
     let current = walks::active_document(m, v);
     Spot {
@@ -106,6 +108,12 @@ pub fn enter(m: &mut Memory, spot: Spot, row: Document) -> bool
     ensures { Carries (entered spot row) (documents ∷ []) (windows ∷ documents ∷ inputs ∷ []) m.old m.new result }
 {
     removing::remove(m, spot.gone.windows, spot.gone.documents);
-    documents::revise(m, documents::Change::SetActive(row.window, spot.was, false));
-    documents::put(m, row)
+    Documents::revise(m, |d| {
+        if d.window == row.window && d.place == spot.was {
+            Document { active: false, ..d }
+        } else {
+            d
+        }
+    });
+    Documents::put(m, row)
 }

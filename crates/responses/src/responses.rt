@@ -9,7 +9,9 @@ use crate::courses::{Course, course_of};
 use crate::headers::act_on_headers;
 use crate::loading::{enter, new_document};
 use crate::redirecting::{redirection, with_fragment_of};
+use inputs::Inputs;
 use memory::Memory;
+use rows::Table;
 use stepping::{Performed, conclude};
 use types::answers::Answer;
 use types::cookies::SetCookies;
@@ -65,7 +67,7 @@ fn takes(
             conclude(room && entered, None)
         }
         Course::Handed(row) => {
-            let filed = inputs::put(m, row);
+            let filed = Inputs::put(m, row);
             conclude(room && filed, None)
         }
         Course::NothingMore => conclude(room, None),
