@@ -47,13 +47,6 @@ unfolding clean
 clean-sts l [] = refl
 clean-sts l (r ∷ rs) = rw (no-host l r.host.0) (clean-sts l rs)
 
--- WHAT TESTS HAVE COME TO. One more is made, or it is known already.
-pub joined : {a x y v b : Bool} → a ≡ x → a ≡ true → v ≡ b → b ≡ y → v ≡ (x && y)
-joined e t v b = rw (sym e ∙ t) (v ∙ b)
-
-pub parted : {a x v : Bool} (y : Bool) → a ≡ x → a ≡ false → v ≡ a → v ≡ (x && y)
-parted y e t v = rw (sym e ∙ t) (v ∙ t)
-
 six : (a b c d e f : Bool) → (a && b && c && d && e && f) ≡ (a && (b && (c && (d && (e && (f && true))))))
 six true true true true true f = sym (and-true f)
 six true true true true false f = refl

@@ -3,7 +3,8 @@ use Rattle.std.proofs.Common.{◌≡◌, refl}
 use mathlib.Core.Bool.{◌&&◌}
 use Rattle.tables.specs.Tables.{windows, documents, session_storage, inputs, pending_dns, pending_requests}
 use Rattle.browser.specs.View.{view}
-use Rattle.stepping.proofs.Spare.{joined, parted, silent, fresh-tables}
+use Rattle.browser.proofs.Tests.{joined, parted}
+use Rattle.stepping.proofs.Spare.{silent, fresh-tables}
 use Rattle.stepping.proofs.fresh.absent.Goals as goal
 use Rattle.stepping.proofs.fresh.absent.Goals.{Joined-clean-4, then-clean, else-clean, then-clean-2, else-clean-2, then-clean-3, else-clean-3, then-clean-4, else-clean-4}
 
