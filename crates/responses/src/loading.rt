@@ -6,7 +6,6 @@ ghost use Rattle.memory.specs.Rows.{table};
 ghost use Rattle.layouts.specs.Tables.{documents_in};
 ghost use Rattle.wim.specs.Walks.{documents_of};
 ghost use Rattle.wim.specs.Program.{observed, history};
-ghost use Rattle.wim.specs.History.{place_of};
 ghost use Rattle.wim.specs.Response.{later_than, up_to, new_document};
 ghost use Rattle.browser.specs.View.{view};
 ghost use Rattle.stepping.specs.Holds.{Carries};
@@ -30,49 +29,28 @@ pub struct Spot {
     pub gone: Removal,
 }
 
-// The place of the active document. Places begin with 1: 0 is that of none.
-fn place_of(current: Option<Document>) -> u32
-    ensures { result ≡ place_of current }
-{
-    current.map_or(0, |d| d.place)
-}
-
 // The documents of the window v behind the active one.
 fn later_than(m: &Memory, v: WindowNumber, current: Option<Document>) -> DocumentNumbers
     ensures { document_numbers result ≡ map number_of (later_than current (documents_of (table documents_in m.now) v)) }
 {
-    match current {
-        None => DocumentNumbers {
-            rows: [DocumentNumber(0); 64],
-            count: 0,
-        },
-        Some(d) => documents::numbers(m, |e| e.window == v && d.place < e.place),
-    }
+    documents::numbers(m, |e| e.window == v && current.is_some_and(|d| d.place < e.place))
 }
 
-// How many there are up to the active one: all, where none is.
-fn up_to(m: &Memory, v: WindowNumber, current: Option<Document>) -> usize
-    ensures { result ≡ length (up_to current (documents_of (table documents_in m.now) v)) }
-{
-    match current {
-        None => Documents::tally(m, |e| e.window == v),
-        Some(d) => Documents::tally(m, |e| e.window == v && e.place <= d.place),
-    }
-}
-
-// The place behind these.
+// The place behind those up to the active one: behind all, where none is.
 fn place_behind(m: &Memory, v: WindowNumber, current: Option<Document>) -> u32
     ensures { result ≡ suc (length (up_to current (documents_of (table documents_in m.now) v))) }
 {
-    up_to(m, v, current) as u32 + 1
+    let up_to = Documents::tally(m, |e| e.window == v && current.is_none_or(|d| e.place <= d.place));
+    up_to as u32 + 1
 }
 
+// Places begin with 1: where no document is active, 0 is that of none.
 pub fn look(m: &Memory, v: WindowNumber) -> Spot
     ensures { Finds (observed (history v) (view m.now)) (behind v (view m.now)) result }
 {
     let current = walks::active_document(m, v);
     Spot {
-        was: place_of(current),
+        was: current.map_or(0, |d| d.place),
         place: place_behind(m, v, current),
         gone: removing::removal(m, later_than(m, v, current)),
     }
