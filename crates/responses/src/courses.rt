@@ -19,7 +19,12 @@ use types::{DocumentNumber, Matching, Reference, Url, WindowNumber};
 #[derive(Clone, Copy)]
 pub enum Course {
     Followed(Url),
-    Loaded(WindowNumber, Spot, Script, ScriptState),
+    Loaded {
+        window: WindowNumber,
+        spot: Spot,
+        script: Script,
+        state: ScriptState,
+    },
     Handed(Input),
     NothingMore,
 }
@@ -43,7 +48,12 @@ fn body_course(m: &Memory, v: WindowNumber, a: Answer) -> Course
 {
     match a.body {
         Body::Number(_) => Course::NothingMore,
-        Body::Page(script, state) => Course::Loaded(v, look(m, v), script, state),
+        Body::Page(script, state) => Course::Loaded {
+            window: v,
+            spot: look(m, v),
+            script,
+            state,
+        },
     }
 }
 
@@ -69,7 +79,10 @@ fn script_course(m: &Memory, n: DocumentNumber, matching: Matching, a: Answer) -
     }
     match walks::listening(m, n) {
         None => Course::NothingMore,
-        Some(d) => Course::Handed(storing::next_input(m, d.number, News::Answered(matching, a.body))),
+        Some(d) => {
+            let news = News::Answered(matching, a.body);
+            Course::Handed(storing::next_input(m, d.number, news))
+        }
     }
 }
 

@@ -33,14 +33,20 @@ pub struct Spot {
 fn later_than(m: &Memory, v: WindowNumber, current: Option<Document>) -> DocumentNumbers
     ensures { document_numbers result ≡ map number_of (later_than current (documents_of (table documents_in m.now) v)) }
 {
-    documents::numbers(m, |e| e.window == v && current.is_some_and(|d| d.place < e.place))
+    documents::numbers(
+        m,
+        |e| e.window == v && current.is_some_and(|d| d.place < e.place),
+    )
 }
 
 // The place behind those up to the active one: behind all, where none is.
 fn place_behind(m: &Memory, v: WindowNumber, current: Option<Document>) -> u32
     ensures { result ≡ suc (length (up_to current (documents_of (table documents_in m.now) v))) }
 {
-    let up_to = Documents::tally(m, |e| e.window == v && current.is_none_or(|d| e.place <= d.place));
+    let up_to = Documents::tally(
+        m,
+        |e| e.window == v && current.is_none_or(|d| e.place <= d.place),
+    );
     up_to as u32 + 1
 }
 

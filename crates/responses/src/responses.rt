@@ -37,7 +37,7 @@ fn wanted(course: Course) -> Wants
             dns: true,
             ..NOTHING
         },
-        Course::Loaded(..) => Wants {
+        Course::Loaded { .. } => Wants {
             document: true,
             ..NOTHING
         },
@@ -46,14 +46,7 @@ fn wanted(course: Course) -> Wants
 }
 
 // A8:7 to 29, 35 to 45, 48 to 50. `room` tells of what was put before.
-fn takes(
-    m: &mut Memory,
-    room: bool,
-    course: Course,
-    w: Waiting,
-    a: Answer,
-    f: Fresh,
-) -> Performed
+fn takes(m: &mut Memory, room: bool, course: Course, w: Waiting, a: Answer, f: Fresh) -> Performed
     ensures { Takes course w a f room m.old m.new result }
 {
     match course {
@@ -61,8 +54,13 @@ fn takes(
             let to = with_fragment_of(w.url, u);
             sending::http_send(m, room, redirection(to, w, a), f)
         }
-        Course::Loaded(v, spot, script, state) => {
-            let row = new_document(v, spot.place, f.document, w, a, script, state);
+        Course::Loaded {
+            window,
+            spot,
+            script,
+            state,
+        } => {
+            let row = new_document(window, spot.place, f.document, w, a, script, state);
             let entered = enter(m, spot, row);
             conclude(room && entered, None)
         }
