@@ -9,7 +9,7 @@ ghost use Rattle.wim.specs.Program.{observed, history};
 ghost use Rattle.wim.specs.Response.{later_than, up_to, new_document};
 ghost use Rattle.browser.specs.View.{view};
 ghost use Rattle.stepping.specs.Holds.{Carries};
-ghost use Rattle.documents.specs.Which.{number_of};
+ghost use Rattle.documents.specs.Told.{number_of};
 ghost use Rattle.responses.specs.Entered.{behind, Finds, entered};
 
 use documents::Documents;
@@ -91,7 +91,7 @@ pub fn new_document(
 pub fn enter(m: &mut Memory, spot: Spot, row: Document) -> bool
     ensures { Carries (entered spot row) (documents ∷ []) (windows ∷ documents ∷ inputs ∷ []) m.old m.new result }
 {
-    removing::remove(m, spot.gone.windows, spot.gone.documents);
+    removing::remove(m, spot.gone);
     Documents::revise(m, |d| {
         if d.window == row.window && d.place == spot.was {
             Document { active: false, ..d }

@@ -3,7 +3,7 @@ use Rattle.std.proofs.Common.{rules, ◌∙◌, ap, map}
 use Rattle.std.specs.Prelude.{◌&&◌}
 use Rattle.types.specs.declared.rows.Document.{Document}
 use Rattle.tables.specs.Rows.{same_window}
-use Rattle.documents.specs.Which.{number_of}
+use Rattle.documents.specs.Told.{number_of}
 use Rattle.responses.proofs.Histories.{is_later, kept-later}
 use Rattle.responses.proofs.loading.later_than.Goals as goal
 

@@ -4,7 +4,7 @@ use Rattle.std.specs.Prelude.{Option}
 use Rattle.types.specs.declared.rows.Document.{Document}
 use Rattle.memory.specs.Rows.{table}
 use Rattle.layouts.specs.Tables.{windows_in, documents_in}
-use Rattle.documents.specs.Which.{number_of}
+use Rattle.documents.specs.Told.{number_of}
 use Rattle.wim.specs.Program.{observed}
 use Rattle.wim.specs.Walks.{documents_of, active_document, removal}
 use Rattle.wim.specs.History.{place_of}
