@@ -507,7 +507,8 @@ def crate(table, folder):
     here = f'Rattle.{table.name}.specs'
     own = {f'{here}.Heads': ['head_of', 'head_mentions'], f'{here}.Tidied': ['tidied'], 'Rattle.layouts.specs.Tables': [table.layout], 'Rattle.layouts.specs.Rows': [table.decode, f'{table.decode}_with']}
     for name, text in table.more.items():
-        own[f'{here}.{os.path.basename(name)[:-5]}'] = re.findall(r'^(?:abbrev pub|pub record) (\S+)', text, re.M) if name.startswith('specs/') else []
+        if name.startswith('specs/'):
+            own[f'{here}.{os.path.basename(name)[:-5]}'] = re.findall(r'^(?:abbrev pub|pub record) (\S+)', text, re.M)
     text = fill(LIB, words)
     claims = '\n'.join(l for l in text.split('\n') if re.match(r'\s*(ghost \w+ = |ensures )', l))
     words['ghosts'] = re.sub(r'^use', 'ghost use', cited(re.sub(r'ghost \w+ = ', '', claims), CITES | own, 'use {module}.{names};'), flags=re.M)

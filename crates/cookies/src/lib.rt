@@ -11,6 +11,7 @@ ghost use Rattle.tables.specs.Rows.{pair_of, jar};
 ghost use Rattle.layouts.specs.Tables.{host_cookies_in};
 ghost use Rattle.layouts.specs.Rows.{host_cookie_of};
 ghost use Rattle.cookies.specs.Sent.{goes_to};
+ghost use Rattle.cookies.specs.Filled.{PutAll};
 
 use memory::Memory;
 use rows::Table;

@@ -18,7 +18,12 @@ ghost use Rattle.layouts.specs.Tables.{host_cookies_in, inputs_in};
 ghost use Rattle.stepping.specs.Holds.{Carries};
 ghost use Rattle.storing.specs.Next.{next_input};
 
+use cookies::Cookies;
+use inputs::Inputs;
+use local_storage::LocalStorage;
 use memory::Memory;
+use rows::Table;
+use session_storage::SessionStorage;
 use types::cookies::{Cookie, SetCookies};
 use types::items::Stored;
 use types::rows::{Input, LocalValue, News, SessionValue};
@@ -28,7 +33,8 @@ use types::{DocumentNumber, Host, Origin, Protocol, WindowNumber};
 fn is_guarded(m: &Memory, h: Host, c: Cookie) -> bool
     ensures { result ≡ guarded (keep (λ (o : HostCookie). same_host o.host h) (table host_cookies_in m.now)) c }
 {
-    cookies::first(m, cookies::Which::Guards(h, c.name)).found
+    Cookies::first(m, |old| old.host == h && old.cookie.name == c.name && old.cookie.httponly)
+        .is_some()
 }
 
 // Definition 36: which of a script's cookies are stored, where h is the host of the script's document.
@@ -58,10 +64,10 @@ pub fn store_local(m: &mut Memory, o: Origin, v: Stored) -> bool
     ensures { Carries (apply local_storage (store_local o v)) (local_storage ∷ []) (local_storage ∷ []) m.old m.new result }
 {
     if v.0 == 0 {
-        local_storage::keep(m, local_storage::Which::KeyIsNot(o.host, o.protocol));
+        LocalStorage::remove(m, o);
         true
     } else {
-        local_storage::put(
+        LocalStorage::put(
             m,
             LocalValue {
                 origin: o,
@@ -76,10 +82,10 @@ pub fn store_session(m: &mut Memory, o: Origin, top: WindowNumber, v: Stored) ->
     ensures { Carries (apply session_storage (store_session o top v)) (session_storage ∷ []) (session_storage ∷ []) m.old m.new result }
 {
     if v.0 == 0 {
-        session_storage::keep(m, session_storage::Which::KeyIsNot(o.host, o.protocol, top));
+        SessionStorage::remove(m, (o, top));
         true
     } else {
-        session_storage::put(
+        SessionStorage::put(
             m,
             SessionValue {
                 origin: o,
@@ -94,7 +100,7 @@ pub fn store_session(m: &mut Memory, o: Origin, top: WindowNumber, v: Stored) ->
 pub fn next_input(m: &Memory, n: DocumentNumber, news: News) -> Input
     ensures { result ≡ next_input n news (table inputs_in m.now) }
 {
-    let earlier = inputs::tally(m, inputs::Which::OfDocument(n));
+    let earlier = Inputs::tally(m, |i| i.document == n);
     Input {
         document: n,
         arrival: earlier as u32 + 1,

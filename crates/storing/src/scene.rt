@@ -1,14 +1,18 @@
 // What a script's step stands on (000 Algorithm 7), the document that a command means, and what a step stores whatever its command is.
 ghost use Rattle.std.specs.Prelude.{◌≡◌, [], ◌∷◌};
 ghost use Rattle.tables.specs.Tables.{cookies, local_storage, session_storage};
+ghost use Rattle.tables.specs.Rows.{with_state, changing};
 ghost use Rattle.memory.specs.Rows.{table};
 ghost use Rattle.layouts.specs.Tables.{windows_in, documents_in};
 ghost use Rattle.stepping.specs.Holds.{Carries};
 ghost use Rattle.storing.specs.Gotten.{gotten};
 ghost use Rattle.storing.specs.Stored.{stored};
 
+use documents::Documents;
 use memory::Memory;
-use types::WindowNumber;
+use rows::Table;
+use types::{DocumentNumber, WindowNumber};
+use types::commands::ScriptState;
 use types::cookies::SetCookies;
 use types::items::Output;
 use types::rows::Document;
@@ -30,6 +34,12 @@ pub fn get_window(m: &Memory, d: Document, x: WindowNumber) -> Document
     walks::of_origin(m, d, x).unwrap_or(d)
 }
 
+fn with_state(d: Document, n: DocumentNumber, state: ScriptState) -> Document
+    ensures { result ≡ changing n (with_state state) d }
+{
+    if d.number == n { Document { state, ..d } } else { d }
+}
+
 // A7:11 to 14. Whether there was room.
 pub fn store(m: &mut Memory, s: Scene) -> bool
     ensures { Carries (stored s) (session_storage ∷ local_storage ∷ cookies ∷ []) (local_storage ∷ session_storage ∷ []) m.old m.new result }
@@ -39,6 +49,6 @@ pub fn store(m: &mut Memory, s: Scene) -> bool
     let cookies = crate::put_cookies(m, o.host, s.merged);
     let locally = crate::store_local(m, o, s.output.local);
     let sessions = crate::store_session(m, o, s.top, s.output.session);
-    documents::revise(m, documents::Change::SetState(d.number, s.output.state));
+    Documents::revise(m, |e| with_state(e, d.number, s.output.state));
     cookies && locally && sessions
 }
