@@ -11,11 +11,11 @@ ghost use Rattle.storing.specs.Stored.{stored};
 use documents::Documents;
 use memory::Memory;
 use rows::Table;
-use types::{DocumentNumber, WindowNumber};
 use types::commands::ScriptState;
 use types::cookies::SetCookies;
 use types::items::Output;
 use types::rows::Document;
+use types::{DocumentNumber, WindowNumber};
 
 // The window that a script runs in, its active document, the top-level window above; the cookies that CookieMerge leaves, and the script's output.
 #[derive(Clone, Copy)]
@@ -37,7 +37,11 @@ pub fn get_window(m: &Memory, d: Document, x: WindowNumber) -> Document
 fn with_state(d: Document, n: DocumentNumber, state: ScriptState) -> Document
     ensures { result ≡ changing n (with_state state) d }
 {
-    if d.number == n { Document { state, ..d } } else { d }
+    if d.number == n {
+        Document { state, ..d }
+    } else {
+        d
+    }
 }
 
 // A7:11 to 14. Whether there was room.

@@ -2,7 +2,9 @@
 use Rattle.std.proofs.Common.{◌∙◌, rules}
 use Rattle.history.proofs.Looking.{before-found, after-found}
 use Rattle.history.proofs.beside.Goals as goal
-use Rattle.history.proofs.beside.Goals.{in-Before, in-After}
 
-pub returns : goal.returns
-returns c = elim c.match-q.branch [ in-Before w ↦ (let o = w.other-is in let e = w.checked_sub-other.ensures in c.first.ensures _ (λ r b h. ?)) | in-After w ↦ ? ]
+pub returns-in-Before : goal.returns-in-Before
+returns-in-Before c = rw c.in-Before.is (c.first.ensures _ (λ r b h. search rules) ∙ before-found _ c.args.w c.args.d)
+
+pub returns-in-After : goal.returns-in-After
+returns-in-After c = rw c.in-After.is (c.first-in-After.ensures _ (λ r b h. search rules) ∙ after-found _ c.args.w c.args.d)
