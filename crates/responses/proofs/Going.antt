@@ -1,8 +1,8 @@
 -- The way through Algorithm 8: the course, the headers, and what is done on the course. No code stands here.
-use mathlib.Core.Path.{◌≡◌, refl, sym, ◌∙◌}
+use mathlib.Core.Path.{◌≡◌, refl, sym}
 use mathlib.Core.Bool.{Bool, true, false}
 use mathlib.Core.List.{List, [], ◌∷◌, map}
-use Rattle.std.specs.Prelude.{Option, None as none, Err}
+use Rattle.std.specs.Prelude.{None as none, Err}
 use Prim.Native.Nat.{ℕ}
 use Rattle.types.specs.declared.Fresh.{Fresh}
 use Rattle.types.specs.declared.answers.Answer.{Answer}

@@ -1,5 +1,5 @@
 -- A request waits with this number and no key, or 3.
-use Rattle.std.proofs.Common.{rules, ◌≡◌, sym, ◌∙◌}
+use Rattle.std.proofs.Common.{rules, sym, ◌∙◌}
 use Rattle.std.specs.Prelude.{None as none, Some as some}
 use Rattle.types.specs.Lists.{cookies_in}
 use Rattle.types.specs.declared.refusals.Refusal.TheVariants.{Lacking}
