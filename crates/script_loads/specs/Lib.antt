@@ -1,3 +1,3 @@
--- What HREF and FORM share, and the window that IFRAME hangs.
+-- What HREF and FORM share, and how every command ends that sends.
 pub mod Navigation
-pub mod Frame
+pub mod Loading
