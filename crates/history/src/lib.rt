@@ -19,6 +19,7 @@ use types::rows::Document;
 pub type Display = Result<(WindowNumber, Document), Missing>;
 
 // "w ← Subwindows(s') such that s'.w.documents ≠ ⟨⟩ if possible; otherwise stop" (000 A9:10, 31, 38, 41)
+#[tactic(auto, unfolding(wim::specs::Program::observed))]
 pub fn displayed(m: &Memory, w: WindowNumber) -> Display
     ensures { result ≡ display_at w (view m.now) }
 {
@@ -37,14 +38,15 @@ pub enum Towards {
 fn beside(m: &Memory, w: WindowNumber, d: Document, q: Towards) -> Option<Document>
     ensures { result ≡ beside q w (table documents_in m.now) d }
 {
-    let place = d.place;
-    match q {
-        Towards::Before => documents::first(m, documents::Which::BeforeIn(w, place)),
-        Towards::After => documents::first(m, documents::Which::AfterIn(w, place)),
-    }
+    let f = match q {
+        Towards::Before => documents::first(m, documents::Which::BeforeIn(w, d.place)),
+        Towards::After => documents::first(m, documents::Which::AfterIn(w, d.place)),
+    };
+    f.found.then_some(f.row)
 }
 
 // Line 2: from the place of the active document to that of the document beside it, if there is one.
+#[tactic(auto, unfolding(wim::specs::Walks::active_document))]
 pub fn look(m: &Memory, w: WindowNumber, q: Towards) -> Option<(u32, u32)>
     ensures { result ≡ way q w (table documents_in m.now) }
 {
