@@ -116,6 +116,7 @@ pub fn navigable_set(m: &Memory, w: WindowNumber) -> u32
 }
 
 // 01: "its size is the count of those bits".
+#[tactic(auto, using(wim::proofs::NavigableMask::navigable_ones))]
 pub fn navigable_size(m: &Memory, w: WindowNumber) -> u32
     ensures { result ≡ navigable_size (table windows_in m.now) (table documents_in m.now) w }
 {
