@@ -1,3 +1,3 @@
--- What HREF and FORM share, and how every command ends that sends.
+-- What HREF and FORM share, and what each command does behind the store.
 pub mod Navigation
-pub mod Loading
+pub mod Change

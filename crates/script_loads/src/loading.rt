@@ -1,8 +1,9 @@
 // How a command that loads something ends: what every script step stores, the command's own change, and HTTP_SEND.
 ghost use Rattle.stepping.specs.Performs.{Performs};
+ghost use Rattle.stepping.specs.Wanted.{picked};
 ghost use Rattle.storing.specs.Stored.{storing};
 ghost use Rattle.wim.specs.Program.{Program};
-ghost use Rattle.script_loads.specs.Loading.{Loads};
+ghost use Rattle.script_loads.specs.Change.{Does, sends};
 
 use memory::Memory;
 use stepping::Performed;
@@ -37,7 +38,7 @@ pub fn load<F: FnOnce(&mut Memory) -> bool>(
     change: F,
 ) -> Performed
     requires { F.IsAlwaysCallable change }
-    ensures { (p : Program) → Loads F.post change wants s.fresh o p → Performs (storing s p) s.fresh m.old m.new result }
+    ensures { (p : Program) → Does F.post change (picked wants s.fresh) (sends o s.fresh) p → Performs (storing s p) s.fresh m.old m.new result }
 {
     if !stepping::fresh::ready(m, s.fresh, wants) {
         return Err(Refusal::NotFresh);

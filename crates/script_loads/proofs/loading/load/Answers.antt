@@ -5,9 +5,9 @@ use Rattle.script_loads.proofs.Ends.{stale, over}
 use Rattle.script_loads.proofs.loading.load.Goals as goal
 
 pub returns-then-not-ready : goal.returns-then-not-ready
-returns-then-not-ready g c p h = stale c.args.s p h (search rules)
+returns-then-not-ready g c p h = stale c.args.wants c.args.s c.args.o p h (search rules)
 
 pub returns : goal.returns
 returns g c p h =
     let room : c.if-stored.http_send ≡ (c.store-stored.result && c.change-changed.result) = search rules in
-    over c.args.s p h (search rules) room c.store-stored.ensures c.change-changed.ensures refl c.http_send.ensures
+    over c.args.wants c.args.s c.args.o p h (search rules) room c.store-stored.ensures c.change-changed.ensures refl c.http_send.ensures
