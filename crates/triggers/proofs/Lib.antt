@@ -1,4 +1,3 @@
 -- The ways through the triggers.
 pub mod Addresses
 pub mod Again
-pub mod Moves

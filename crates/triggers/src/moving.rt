@@ -3,7 +3,7 @@ ghost use Rattle.wim.specs.Main.{displayed, forward, back};
 ghost use Rattle.stepping.specs.Performs.{Performs};
 ghost use Rattle.history.specs.Directions.{nav};
 
-use history::{Display, Towards};
+use history::Towards;
 use memory::Memory;
 use stepping::Performed;
 use types::refusals::Refusal;
@@ -13,21 +13,15 @@ use types::{Fresh, WindowNumber};
 fn go(m: &mut Memory, w: WindowNumber, q: Towards, f: Fresh) -> Performed
     ensures { Performs (displayed w (λ d. nav q w (λ p. p))) f m.old m.new result }
 {
-    let s = history::displayed(m, w);
-    match s {
-        Display::Lacks(x) => stepping::refuse(Refusal::Lacking(x)),
-        Display::Shows(_, _) => {
-            let l = history::look(m, w, q);
-            if l.found {
-                if stepping::brings_none(f) {
-                    history::turn(m, w, l.from, l.to);
-                    return stepping::silent(true);
-                }
-                return stepping::refuse(Refusal::NotFresh);
-            }
-            stepping::refuse(Refusal::Stopped)
-        }
+    history::displayed(m, w)?;
+    let Some((from, to)) = history::look(m, w, q) else {
+        return Err(Refusal::Stopped);
+    };
+    if !stepping::brings_none(f) {
+        return Err(Refusal::NotFresh);
     }
+    history::turn(m, w, from, to);
+    Ok(None)
 }
 
 // 37 to 39

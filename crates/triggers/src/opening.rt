@@ -1,15 +1,9 @@
 // 000 Algorithm 9, lines 13 to 29: urlbar. An address goes into a new window, or into a top-level window that shows something.
-ghost use Rattle.std.specs.Prelude.{◌≡◌};
 ghost use Rattle.types.specs.declared.commands.Target.TheVariants.{NewWindow, Existing};
-ghost use Rattle.types.specs.declared.Reference.TheVariants.{Req};
-ghost use Rattle.std.specs.Prelude.{None as Unknown};
-ghost use Rattle.std.specs.Prelude.{None as Nobody};
-ghost use Rattle.wim.specs.Main.{sending_to, urlbar};
-ghost use Rattle.wim.specs.Script.{new_top_window};
-ghost use Rattle.wim.specs.Sending.{send};
+ghost use Rattle.wim.specs.Main.{urlbar};
 ghost use Rattle.stepping.specs.Performs.{Performs};
 
-use super::visiting::sending_to;
+use super::visiting::{SENDS, sending_to};
 use memory::Memory;
 use stepping::Performed;
 use types::commands::Target;
@@ -17,69 +11,39 @@ use types::refusals::{Missing, Refusal};
 use types::rows::Window;
 use types::{Fresh, Url, Wants, WindowNumber};
 
-// 17
-fn top_window(w: WindowNumber) -> Window
-    ensures { result ≡ new_top_window w Nobody }
-{
-    Window {
-        number: w,
-        parent: None,
-        opener: None,
-    }
-}
-
 // 16 to 18, 27 to 29
 fn urlbar_new(m: &mut Memory, url: Url, f: Fresh) -> Performed
     ensures { Performs (urlbar url NewWindow) f m.old m.new result }
 {
     let wants = Wants {
         window: true,
-        request: true,
-        dns: true,
-        key: false,
-        document: false,
+        ..SENDS
     };
-    if stepping::fresh::ready(m, f, wants) {
-        let w = f.window;
-        let row = top_window(w);
-        let room = windows::put(m, row);
-        let o = sending_to(w, url, None);
-        return sending::http_send(m, room, o, f);
+    if !stepping::fresh::ready(m, f, wants) {
+        return Err(Refusal::NotFresh);
     }
-    stepping::refuse(Refusal::NotFresh)
-}
-
-// 21, 27 to 29
-fn load_into(m: &mut Memory, url: Url, w: WindowNumber, f: Fresh) -> Performed
-    ensures { Performs (send (sending_to (Req w) url Unknown)) f m.old m.new result }
-{
-    let wants = Wants {
-        window: false,
-        request: true,
-        dns: true,
-        key: false,
-        document: false,
+    let w = f.window;
+    let row = Window {
+        number: w,
+        parent: None,
+        opener: None,
     };
-    if stepping::fresh::ready(m, f, wants) {
-        let o = sending_to(w, url, None);
-        return sending::http_send(m, true, o, f);
-    }
-    stepping::refuse(Refusal::NotFresh)
+    let room = windows::put(m, row);
+    sending::http_send(m, room, sending_to(w, url, None), f)
 }
 
 // 19 to 21, 27 to 29: a top-level window that shows something
 fn urlbar_existing(m: &mut Memory, url: Url, w: WindowNumber, f: Fresh) -> Performed
     ensures { Performs (urlbar url (Existing w)) f m.old m.new result }
 {
-    let top = walks::is_top(m, w);
-    if top {
-        let a = walks::active_document(m, w);
-        if a.found {
-            return load_into(m, url, w, f);
-        }
-        return stepping::refuse(Refusal::Lacking(Missing::NoDocument));
+    if !walks::is_top(m, w) {
+        return Err(Missing::NoWindow.into());
     }
-    stepping::refuse(Refusal::Lacking(Missing::NoWindow))
+    walks::active_document(m, w).ok_or(Missing::NoDocument)?;
+    if !stepping::fresh::ready(m, f, SENDS) {
+        return Err(Refusal::NotFresh);
+    }
+    sending::http_send(m, true, sending_to(w, url, None), f)
 }
 
 pub fn urlbar(m: &mut Memory, target: Target, url: Url, f: Fresh) -> Performed

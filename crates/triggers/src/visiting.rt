@@ -3,20 +3,30 @@ ghost use Rattle.std.specs.Prelude.{◌≡◌};
 ghost use Rattle.types.specs.declared.Reference.TheVariants.{Req};
 ghost use Rattle.wim.specs.Main.{sending_to};
 
-use types::{Data, Method, OriginHeader, Policy, Reference, Referrer, Sending, Url, WindowNumber};
+use types::{
+    Data, Method, OriginHeader, Policy, Reference, Referrer, Sending, Url, Wants, WindowNumber,
+};
+
+// HTTP_SEND takes a request's number and a question's.
+pub const SENDS: Wants = Wants {
+    window: false,
+    request: true,
+    dns: true,
+    key: false,
+    document: false,
+};
 
 pub fn sending_to(w: WindowNumber, url: Url, referrer: Referrer) -> Sending
     ensures { result ≡ sending_to (Req w) url referrer }
 {
-    let p = url.parameters;
     Sending {
         reference: Reference::Req(w),
         method: Method::Get,
-        url: url,
-        parameters: p,
+        url,
+        parameters: url.parameters,
         body: Data(0),
         origin: OriginHeader::Unsent,
-        referrer: referrer,
+        referrer,
         policy: Policy::Unset,
     }
 }

@@ -1,2 +1,0 @@
--- What reload does once it has seen the document.
-pub mod Again
