@@ -12,6 +12,9 @@ ghost use Rattle.sending.specs.Sends.{sent, Sends};
 ghost use Rattle.sending.specs.Cancels.{cancelled};
 
 use memory::Memory;
+use pending_dns::PendingDns;
+use pending_requests::PendingRequests;
+use rows::Table;
 use stepping::Performed;
 use types::cookies::Jar;
 use types::rows::Question;
@@ -100,7 +103,7 @@ pub fn send(m: &mut Memory, o: Sending, q: RequestNumber, n: DnsNumber) -> bool
     let strict = sts::strict(m, o.url.host);
     let url = secured_if(strict, o.url);
     let jar = cookies::sent_to(m, o.url.host, url.protocol);
-    pending_dns::put(m, question_of(o, url, jar, q, n))
+    PendingDns::put(m, question_of(o, url, jar, q, n))
 }
 
 // HTTP_SEND ends a step; `room` says whether there was room for what the step put before.
@@ -116,7 +119,7 @@ pub fn cancel(m: &mut Memory, what: Cancelled)
     ensures { Carries (cancelled what) [] (pending_requests ∷ pending_dns ∷ []) m.old m.new true }
 {
     if let Cancelled::Labelled(s) = what {
-        pending_requests::keep(m, pending_requests::Which::NotFor(s));
-        pending_dns::keep(m, pending_dns::Which::NotFor(s));
+        PendingRequests::keep(m, |h| h.reference != s);
+        PendingDns::keep(m, |h| h.reference != s);
     }
 }

@@ -6,19 +6,26 @@ ghost use Rattle.wim.specs.Step.{numbers, fresh_labels, all_fresh};
 ghost use Rattle.browser.specs.View.{view};
 ghost use Rattle.stepping.specs.Wanted.{flags, agrees, exactly, ready, spare};
 
+use documents::Documents;
+use inputs::Inputs;
 use memory::Memory;
+use pending_dns::PendingDns;
+use pending_requests::PendingRequests;
+use rows::Labelled;
+use session_storage::SessionStorage;
 use types::{Fresh, Label, Wants};
+use windows::Windows;
 
 // No row of any table speaks of the label. Cookies, local storage and STS hosts speak of hosts alone.
 fn absent(m: &Memory, l: Label) -> bool
     ensures { result ≡ is_fresh (view m.now) (label_of l) }
 {
-    windows::clean(m, l)
-        && documents::clean(m, l)
-        && session_storage::clean(m, l)
-        && inputs::clean(m, l)
-        && pending_dns::clean(m, l)
-        && pending_requests::clean(m, l)
+    Windows::clean(m, l)
+        && Documents::clean(m, l)
+        && SessionStorage::clean(m, l)
+        && Inputs::clean(m, l)
+        && PendingDns::clean(m, l)
+        && PendingRequests::clean(m, l)
 }
 
 fn number(l: Label) -> u32

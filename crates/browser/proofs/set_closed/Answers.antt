@@ -4,4 +4,4 @@ use Rattle.browser.proofs.Closed.{closing}
 use Rattle.browser.proofs.set_closed.Goals as goal
 
 pub returns : goal.returns
-returns c = closing c.args.m.now c.args.closed c.from.result c.whole.ensures (search rules)
+returns c = closing c.args.m.now c.args.closed c.from.result c.told-m (search rules)
