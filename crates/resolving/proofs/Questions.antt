@@ -2,7 +2,7 @@
 use mathlib.Core.Path.{◌≡◌, refl, sym, ◌∙◌, ap, subst}
 use mathlib.Core.Bool.{Bool, true, false, not}
 use mathlib.Core.List.{List, [], ◌∷◌}
-use Rattle.std.specs.Prelude.{Option, Some as some}
+use Rattle.std.specs.Prelude.{Option, None as none, Some as some}
 use Prim.Native.Nat.{ℕ}
 use Rattle.types.specs.declared.Address.{Address}
 use Rattle.types.specs.declared.Protocol.TheVariants.{Plain, Secure}
@@ -15,7 +15,7 @@ use Rattle.std.specs.Prelude.{None as Keyless, Some as Keyed}
 use Rattle.types.specs.declared.rows.Question.{Question}
 use Rattle.types.specs.declared.rows.Waiting.{Waiting}
 use Rattle.sorted.specs.Order.{same}
-use Rattle.sorted.specs.Table.{at, looked}
+use Rattle.sorted.specs.Table.{at}
 use Rattle.tables.specs.Tables.{pending_dns, pending_requests, key_of, cmp, Tables}
 use Rattle.tables.specs.Labels.{Label}
 use Rattle.tables.specs.Rows.{same_host}
@@ -32,31 +32,27 @@ use Rattle.stepping.specs.Wanted.{kinds, picked, wants_nothing, wants_key}
 use Rattle.stepping.proofs.Carry.{then_roomy, put-carries, keep-carries}
 use Rattle.resolving.specs.Waits.{handed_over}
 
--- THE QUESTION is looked up by its number.
-module _ (a : DnsAnswer) (b : Tables) (f : List Label) (found : Bool) (q : Question) (e : looked found q ≡ at (key_of pending_dns) (cmp pending_dns) a.number.0 (b pending_dns)) where
-  ran_found : (x : Bool) → found ≡ x → run (ask (question a.number) (resolved a)) b f ≡ run (resolved a (looked x q)) b f
-  unfolding run observed
-  ran_found x t = ap (λ (o : Option Question). run (resolved a o) b f) (sym e) ∙ ap (λ (y : Bool). run (resolved a (looked y q)) b f) t
+-- THE QUESTION is looked up by its number, and its host is compared.
+module _ (a : DnsAnswer) (b : Tables) (f : List Label) where
+  pub no-question : none ≡ at (key_of pending_dns) (cmp pending_dns) a.number.0 (b pending_dns) → run (ask (question a.number) (resolved a)) b f ≡ refused (Lacking NoQuestion)
+  unfolding run observed resolved
+  no-question e = ap (λ (o : Option Question). run (resolved a o) b f) (sym e)
 
-  pub no-question : found ≡ false → run (ask (question a.number) (resolved a)) b f ≡ refused (Lacking NoQuestion)
-  unfolding run resolved
-  no-question t = ran_found false t
+  module _ {q : Question} (e : some q ≡ at (key_of pending_dns) (cmp pending_dns) a.number.0 (b pending_dns)) where
+    ran_found : run (ask (question a.number) (resolved a)) b f ≡ run (resolved a (some q)) b f
+    unfolding run observed
+    ran_found = ap (λ (o : Option Question). run (resolved a o) b f) (sym e)
 
-  pub a-question : found ≡ true → run (ask (question a.number) (resolved a)) b f ≡ run (resolved a (some q)) b f
-  a-question t = ran_found true t
+    ran_host : (x : Bool) → same_host a.host q.request.host ≡ x → run (resolved a (some q)) b f ≡ run (refuse_unless x Mismatch (go_out q.url.protocol q a.address)) b f
+    unfolding resolved
+    ran_host x t = ap (λ (y : Bool). run (refuse_unless y Mismatch (go_out q.url.protocol q a.address)) b f) t
 
--- ITS HOST is compared.
-module _ (a : DnsAnswer) (q : Question) (b : Tables) (f : List Label) where
-  ran_host : (x : Bool) → same_host a.host q.request.host ≡ x → run (resolved a (some q)) b f ≡ run (refuse_unless x Mismatch (go_out q.url.protocol q a.address)) b f
-  unfolding resolved
-  ran_host x t = ap (λ (y : Bool). run (refuse_unless y Mismatch (go_out q.url.protocol q a.address)) b f) t
+    pub another-host : same_host a.host q.request.host ≡ false → run (ask (question a.number) (resolved a)) b f ≡ refused (Lacking Mismatch)
+    unfolding run
+    another-host t = ran_found ∙ ran_host false t
 
-  pub another-host : same_host a.host q.request.host ≡ false → run (resolved a (some q)) b f ≡ refused (Lacking Mismatch)
-  unfolding run
-  another-host t = ran_host false t
-
-  pub its_host : same_host a.host q.request.host ≡ true → run (resolved a (some q)) b f ≡ run (go_out q.url.protocol q a.address) b f
-  its_host t = ran_host true t
+    pub its_host : same_host a.host q.request.host ≡ true → run (ask (question a.number) (resolved a)) b f ≡ run (go_out q.url.protocol q a.address) b f
+    its_host t = ran_found ∙ ran_host true t
 
 -- OVER P no number is brought, over S a key.
 module _ (q : Question) (address : Address) (f : Fresh) where

@@ -6,32 +6,39 @@ ghost use Rattle.stepping.specs.Holds.{Carries};
 ghost use Rattle.stepping.specs.Performs.{Performs};
 ghost use Rattle.resolving.specs.Emptied.{emptied};
 
+use cookies::Cookies;
+use documents::Documents;
+use inputs::Inputs;
 use memory::Memory;
+use pending_dns::PendingDns;
+use pending_requests::PendingRequests;
+use rows::Table;
+use session_storage::SessionStorage;
 use stepping::Performed;
 use types::Fresh;
 use types::refusals::Refusal;
+use windows::Windows;
 
 // 48 to 52
 fn empty(m: &mut Memory)
     ensures { Carries emptied [] (windows ∷ documents ∷ inputs ∷ pending_dns ∷ pending_requests ∷ session_storage ∷ cookies ∷ []) m.old m.new true }
 {
-    windows::clear(m);
-    documents::clear(m);
-    inputs::clear(m);
-    pending_dns::clear(m);
-    pending_requests::clear(m);
-    session_storage::clear(m);
-    cookies::keep(m, cookies::Which::Lasting);
+    Windows::clear(m);
+    Documents::clear(m);
+    Inputs::clear(m);
+    PendingDns::clear(m);
+    PendingRequests::clear(m);
+    SessionStorage::clear(m);
+    Cookies::keep(m, |row| !row.cookie.session);
 }
 
 // That the browser is closed then (53) is told by the step.
 pub fn close_corrupt(m: &mut Memory, f: Fresh) -> Performed
     ensures { Performs close_corrupt f m.old m.new result }
 {
-    let free = stepping::brings_none(f);
-    if free {
-        empty(m);
-        return stepping::silent(true);
+    if !stepping::brings_none(f) {
+        return Err(Refusal::NotFresh);
     }
-    stepping::refuse(Refusal::NotFresh)
+    empty(m);
+    Ok(None)
 }

@@ -1,6 +1,5 @@
 // 000 Algorithm 9, lines 64 to 74: a DNS answer. The request that waited for its host's address goes out, and waits for its answer.
 ghost use Rattle.std.specs.Prelude.{◌≡◌, [], ◌∷◌};
-ghost use Rattle.std.specs.Prelude.{Some as some};
 ghost use Rattle.types.specs.declared.Protocol.TheVariants.{Plain, Secure};
 ghost use Rattle.tables.specs.Tables.{pending_dns, pending_requests};
 ghost use Rattle.wim.specs.Program.{ask, question};
@@ -11,24 +10,24 @@ ghost use Rattle.stepping.specs.Performs.{Performs};
 ghost use Rattle.resolving.specs.Waits.{handed_over, OfTidy};
 
 use memory::Memory;
+use pending_dns::PendingDns;
+use pending_requests::PendingRequests;
+use rows::Table;
 use stepping::Performed;
 use types::answers::DnsAnswer;
 use types::refusals::{Missing, Refusal};
 use types::rows::{Question, Waiting};
-use types::{Address, Fresh, Protocol, Seal, Sent, Wants};
+use types::{Address, Fresh, Message, Protocol, Seal, Wants};
 
 fn waiting_of(q: Question, seal: Seal, address: Address) -> Waiting
     ensures { result ≡ waiting_of q seal address }
 {
-    let p = q.reference;
-    let asked = q.request;
-    let u = q.url;
     Waiting {
-        reference: p,
-        request: asked,
-        url: u,
-        seal: seal,
-        address: address,
+        reference: q.reference,
+        request: q.request,
+        url: q.url,
+        seal,
+        address,
     }
 }
 
@@ -36,10 +35,8 @@ fn waiting_of(q: Question, seal: Seal, address: Address) -> Waiting
 fn hand_over(m: &mut Memory, q: Question, seal: Seal, address: Address) -> bool
     ensures { Carries (handed_over (tidied q) seal address) (pending_requests ∷ []) (pending_dns ∷ []) m.old m.new result }
 {
-    let n = q.number;
-    let row = waiting_of(q, seal, address);
-    let room = pending_requests::put(m, row);
-    pending_dns::keep(m, pending_dns::Which::KeyIsNot(n));
+    let room = PendingRequests::put(m, waiting_of(q, seal, address));
+    PendingDns::remove(m, q.number);
     room
 }
 
@@ -47,12 +44,11 @@ fn hand_over(m: &mut Memory, q: Question, seal: Seal, address: Address) -> bool
 fn go_plain(m: &mut Memory, q: Question, address: Address, f: Fresh) -> Performed
     ensures { OfTidy q (go_out Plain q address) f m.old m.new result }
 {
-    if stepping::brings_none(f) {
-        let asked = q.request;
-        let room = hand_over(m, q, None, address);
-        return stepping::conclude(room, Sent::Open(address), asked);
+    if !stepping::brings_none(f) {
+        return Err(Refusal::NotFresh);
     }
-    stepping::refuse(Refusal::NotFresh)
+    let room = hand_over(m, q, None, address);
+    stepping::conclude(room, Some(Message::Open(address, q.request)))
 }
 
 // 69, 70, 73 and 74: over S it is sealed with a new key.
@@ -66,13 +62,11 @@ fn go_sealed(m: &mut Memory, q: Question, address: Address, f: Fresh) -> Perform
         key: true,
         document: false,
     };
-    if stepping::fresh::ready(m, f, wants) {
-        let k = f.key;
-        let asked = q.request;
-        let room = hand_over(m, q, Some(k), address);
-        return stepping::conclude(room, Sent::Sealed(address, k), asked);
+    if !stepping::fresh::ready(m, f, wants) {
+        return Err(Refusal::NotFresh);
     }
-    stepping::refuse(Refusal::NotFresh)
+    let room = hand_over(m, q, Some(f.key), address);
+    stepping::conclude(room, Some(Message::Sealed(address, f.key, q.request)))
 }
 
 // 68, 71
@@ -85,31 +79,13 @@ fn go_out(m: &mut Memory, q: Question, p: Protocol, address: Address, f: Fresh) 
     }
 }
 
-// 65: the answer is for the host that was asked for.
-fn answered(m: &mut Memory, a: DnsAnswer, q: Question, f: Fresh) -> Performed
-    ensures { OfTidy q (resolved a (some q)) f m.old m.new result }
-{
-    let asked = q.request;
-    let h = asked.host;
-    let g = a.host;
-    if g.0 == h.0 {
-        let u = q.url;
-        let p = u.protocol;
-        let address = a.address;
-        return go_out(m, q, p, address, f);
-    }
-    stepping::refuse(Refusal::Lacking(Missing::Mismatch))
-}
-
-// 65: the question with its number waits, and what a memory holds is tidy.
+// 65: the question with its number waits, and the answer is for the host that was asked for. What a memory holds is tidy.
 pub fn resolved(m: &mut Memory, a: DnsAnswer, f: Fresh) -> Performed
     ensures { Performs (ask (question a.number) (resolved a)) f m.old m.new result }
 {
-    let n = a.number;
-    let w = pending_dns::first(m, pending_dns::Which::KeyIs(n));
-    if w.found {
-        let q = w.row;
-        return answered(m, a, q, f);
+    let q = PendingDns::get(m, a.number).ok_or(Missing::NoQuestion)?;
+    if a.host != q.request.host {
+        return Err(Missing::Mismatch.into());
     }
-    stepping::refuse(Refusal::Lacking(Missing::NoQuestion))
+    go_out(m, q, q.url.protocol, a.address, f)
 }

@@ -5,11 +5,13 @@ ghost use Rattle.stepping.specs.Performs.{Performs};
 
 use super::visiting::{SENDS, sending_to};
 use memory::Memory;
+use rows::Table;
 use stepping::Performed;
 use types::commands::Target;
 use types::refusals::{Missing, Refusal};
 use types::rows::Window;
 use types::{Fresh, Url, Wants, WindowNumber};
+use windows::Windows;
 
 // 16 to 18, 27 to 29
 fn urlbar_new(m: &mut Memory, url: Url, f: Fresh) -> Performed
@@ -28,7 +30,7 @@ fn urlbar_new(m: &mut Memory, url: Url, f: Fresh) -> Performed
         parent: None,
         opener: None,
     };
-    let room = windows::put(m, row);
+    let room = Windows::put(m, row);
     sending::http_send(m, room, sending_to(w, url, None), f)
 }
 
