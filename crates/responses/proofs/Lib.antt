@@ -3,4 +3,4 @@ pub mod Acting
 pub mod Histories
 pub mod Deciding
 pub mod Going
-pub mod Encrypted
+pub mod Asking

@@ -1,147 +1,93 @@
 // The course of an answer: which way it goes, and what is looked at for it, before anything is changed (000 A8:11, 24, 30 to 34, 46, 47).
+#![tactic(auto, unfolding(wim::specs::Program::observed))]
+
 ghost use Rattle.std.specs.Prelude.{◌≡◌};
-ghost use Rattle.std.specs.Prelude.{None as none};
 ghost use Rattle.wim.specs.Program.{observed, reached, listening};
 ghost use Rattle.wim.specs.Response.{is_redirect, where_to};
 ghost use Rattle.browser.specs.View.{view};
-ghost use Rattle.responses.specs.Course.{toward, nobody, body_at, window_at, script_at, course_at, Plans, Decides};
+ghost use Rattle.responses.specs.Course.{body_at, window_at, script_at, course_at, Decides};
 
-use crate::loading::look;
+use crate::loading::{Spot, look};
 use memory::Memory;
-use removing::told::Removal;
 use types::answers::{Answer, Body, Location, Status};
 use types::commands::{Script, ScriptState};
 use types::rows::{Input, News};
-use types::{
-    DocumentNumber, DocumentNumbers, Matching, Reference, Url, WindowNumber, WindowNumbers,
-};
-use words::statuses::{StatusKind, status_kind};
+use types::{DocumentNumber, Matching, Reference, Url, WindowNumber};
 
-// To the address that it names; into a window, with the place of the active document there, the new one's own, and its script and state;
+// To the address that it names; into a window, at a spot in its history, with the new document's script and state;
 // to the document whose script asked, as an input; or nowhere.
 #[derive(Clone, Copy)]
 pub enum Course {
     Followed(Url),
-    Loaded(WindowNumber, u32, u32, Script, ScriptState),
+    Loaded {
+        window: WindowNumber,
+        spot: Spot,
+        script: Script,
+        state: ScriptState,
+    },
     Handed(Input),
     NothingMore,
-}
-
-// With the windows and documents that go. They stand beside, since an enum holds no array.
-#[derive(Clone, Copy)]
-pub struct Plan {
-    pub course: Course,
-    pub gone: Removal,
-}
-
-// A course on which nothing goes.
-fn alone(course: Course) -> Plan
-    ensures { Plans course nobody result }
-{
-    let windows = WindowNumbers {
-        rows: [WindowNumber(0); 33],
-        count: 0,
-    };
-    let documents = DocumentNumbers {
-        rows: [DocumentNumber(0); 64],
-        count: 0,
-    };
-    let gone = Removal {
-        windows: windows,
-        documents: documents,
-    };
-    Plan {
-        course: course,
-        gone: gone,
-    }
 }
 
 // A8:11, by what the status says
 fn is_redirect(s: Status) -> bool
     ensures { result ≡ is_redirect s }
 {
-    let kind = status_kind(s.0);
-    match kind {
-        StatusKind::Redirects => true,
-        StatusKind::Other => false,
-        StatusKind::NoStatus => false,
-    }
+    matches!(s.0, 303 | 307)
 }
 
-fn where_to(s: Status, l: Location) -> Location
-    ensures { toward result ≡ where_to s l }
+fn where_to(s: Status, l: Location) -> Option<Url>
+    ensures { result ≡ where_to s l }
 {
-    if is_redirect(s) {
-        return l;
-    }
-    None
+    if is_redirect(s) { l } else { None }
 }
 
 // A8:30 to 44: a window's answer without a redirect; a page goes into the history of the window, from which some go.
-fn body_course(m: &Memory, v: WindowNumber, a: Answer) -> Plan
+fn body_course(m: &Memory, v: WindowNumber, a: Answer) -> Course
     ensures { Decides a (body_at (view m.now) v a.body) result }
 {
-    let body = a.body;
-    match body {
-        Body::Number(_) => alone(Course::NothingMore),
-        Body::Page(script, state) => {
-            let s = look(m, v);
-            let gone = s.gone;
-            Plan {
-                course: Course::Loaded(v, s.was, s.place, script, state),
-                gone: gone,
-            }
-        }
+    match a.body {
+        Body::Number(_) => Course::NothingMore,
+        Body::Page(script, state) => Course::Loaded {
+            window: v,
+            spot: look(m, v),
+            script,
+            state,
+        },
     }
 }
 
 // A8:24, 28, 29, 32: of an answer to a window.
-fn window_course(m: &Memory, v: WindowNumber, a: Answer) -> Plan
+fn window_course(m: &Memory, v: WindowNumber, a: Answer) -> Course
     ensures { Decides a (window_at (view m.now) v (observed (reached v) (view m.now)) (where_to a.status a.location) a.body) result }
 {
-    let top = walks::reached(m, v);
-    if top.found {
-        let s = a.status;
-        let l = a.location;
-        let to = where_to(s, l);
-        return match to {
-            None => body_course(m, v, a),
-            Some(u) => alone(Course::Followed(u)),
-        };
+    if walks::reached(m, v).is_none() {
+        return Course::NothingMore;
     }
-    alone(Course::NothingMore)
+    match where_to(a.status, a.location) {
+        None => body_course(m, v, a),
+        Some(u) => Course::Followed(u),
+    }
 }
 
-// A8:47 to 50: for the document whose script asked, if it is the active one of a reached window.
-fn heard_course(m: &Memory, n: DocumentNumber, matching: Matching, a: Answer) -> Plan
-    ensures { Decides a (script_at (view m.now) matching none (observed (listening n) (view m.now))) result }
-{
-    let l = walks::listening(m, n);
-    if l.found {
-        let d = l.row;
-        let k = d.number;
-        let body = a.body;
-        let row = storing::next_input(m, k, News::Answered(matching, body));
-        return alone(Course::Handed(row));
-    }
-    alone(Course::NothingMore)
-}
-
-// Of an answer to an XHR, which is not redirected (A8:24).
-fn script_course(m: &Memory, n: DocumentNumber, matching: Matching, a: Answer) -> Plan
+// A8:47 to 50: for the document whose script asked, if it is the active one of a reached window; an XHR is not redirected (A8:24).
+fn script_course(m: &Memory, n: DocumentNumber, matching: Matching, a: Answer) -> Course
     ensures { Decides a (script_at (view m.now) matching (where_to a.status a.location) (observed (listening n) (view m.now))) result }
 {
-    let s = a.status;
-    let l = a.location;
-    let to = where_to(s, l);
-    match to {
-        None => heard_course(m, n, matching, a),
-        Some(_) => alone(Course::NothingMore),
+    if where_to(a.status, a.location).is_some() {
+        return Course::NothingMore;
+    }
+    match walks::listening(m, n) {
+        None => Course::NothingMore,
+        Some(d) => {
+            let news = News::Answered(matching, a.body);
+            Course::Handed(storing::next_input(m, d.number, news))
+        }
     }
 }
 
 // The request, which waits till now, says whom its answer is for.
-pub fn course_of(m: &Memory, reference: Reference, a: Answer) -> Plan
+pub fn course_of(m: &Memory, reference: Reference, a: Answer) -> Course
     ensures { Decides a (course_at reference a (view m.now)) result }
 {
     match reference {

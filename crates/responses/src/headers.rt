@@ -1,42 +1,38 @@
 // 000 A8:2 to 6, with A9:59 and 62: the request no longer waits, and the headers of its answer are acted upon.
-ghost use Rattle.std.specs.Prelude.{cond, [], ◌∷◌};
-ghost use Rattle.sorted.specs.Table.{put};
+ghost use Rattle.std.specs.Prelude.{[], ◌∷◌};
 ghost use Rattle.types.specs.Lists.{cookies_in};
 ghost use Rattle.tables.specs.Tables.{cookies, pending_requests, sts, apply};
+ghost use Rattle.wim.specs.Response.{strict_host};
 ghost use Rattle.stepping.specs.Holds.{Carries};
 ghost use Rattle.responses.specs.Acted.{acted};
 
 use memory::Memory;
-use types::Host;
+use pending_requests::PendingRequests;
+use rows::Table;
+use sts::Sts;
 use types::answers::Answer;
 use types::cookies::SetCookies;
 use types::rows::{StrictHost, Waiting};
 
-// A8:5, 6
-fn put_strict_if(m: &mut Memory, h: Host, there: bool) -> bool
-    ensures { Carries (apply sts (cond there (put (record { host = h }) ∷ []) [])) (sts ∷ []) [] m.old m.new result }
+// A8:5, 6: the header Strict-Transport-Security counts over S alone.
+fn put_strict(m: &mut Memory, w: Waiting, a: Answer) -> bool
+    ensures { Carries (apply sts (strict_host w a)) (sts ∷ []) [] m.old m.new result }
 {
-    if there {
-        let row = StrictHost { host: h };
-        return sts::put(m, row);
+    if a.strict && labels::is_secure(w.url.protocol) {
+        let host = w.request.host;
+        Sts::put(m, StrictHost { host })
+    } else {
+        true
     }
-    true
 }
 
-// Cookies with a bad prefix are left out (A8:2 to 4); the header Strict-Transport-Security counts over S alone.
+// Cookies with a bad prefix are left out (A8:2 to 4).
 pub fn act_on_headers(m: &mut Memory, w: Waiting, a: Answer, few: SetCookies) -> bool
     ensures { Carries (acted w a (cookies_in few)) (sts ∷ cookies ∷ []) (pending_requests ∷ []) m.old m.new result }
 {
-    let q = w.request;
-    let n = q.number;
-    let h = q.host;
-    let u = w.url;
-    let p = u.protocol;
-    pending_requests::keep(m, pending_requests::Which::KeyIsNot(n));
-    let good = storing::taken(few, p);
-    let stored = storing::put_cookies(m, h, good);
-    let over = labels::is_secure(p);
-    let there = sorted::both(a.strict, over);
-    let strict = put_strict_if(m, h, there);
-    sorted::both(stored, strict)
+    PendingRequests::remove(m, w.request.number);
+    let good = storing::taken(few, w.url.protocol);
+    let stored = storing::put_cookies(m, w.request.host, good);
+    let strict = put_strict(m, w, a);
+    stored && strict
 }

@@ -3,77 +3,72 @@ ghost use Rattle.std.specs.Prelude.{◌≡◌};
 ghost use Rattle.types.specs.Lists.{cookies_in};
 ghost use Rattle.wim.specs.Response.{process_response};
 ghost use Rattle.stepping.specs.Performs.{Performs};
-ghost use Rattle.removing.specs.Gone.{going};
 ghost use Rattle.responses.specs.Taken.{wants_by, Takes};
 
 use crate::courses::{Course, course_of};
 use crate::headers::act_on_headers;
 use crate::loading::{enter, new_document};
 use crate::redirecting::{redirection, with_fragment_of};
+use inputs::Inputs;
 use memory::Memory;
-use removing::told::Removal;
-use stepping::Performed;
+use rows::Table;
+use stepping::{Performed, conclude};
 use types::answers::Answer;
 use types::cookies::SetCookies;
 use types::refusals::Refusal;
 use types::rows::Waiting;
 use types::{Fresh, Wants};
 
+const NOTHING: Wants = Wants {
+    window: false,
+    request: false,
+    dns: false,
+    key: false,
+    document: false,
+};
+
 // A redirect is sent, a page is a new document; else no number is brought.
 fn wanted(course: Course) -> Wants
     ensures { result ≡ wants_by course }
 {
-    let mut w = Wants {
-        window: false,
-        request: false,
-        dns: false,
-        key: false,
-        document: false,
-    };
     match course {
-        Course::Followed(_) => {
-            w.request = true;
-            w.dns = true;
-        }
-        Course::Loaded(_, _, _, _, _) => {
-            w.document = true;
-        }
-        Course::Handed(_) => {}
-        Course::NothingMore => {}
+        Course::Followed(_) => Wants {
+            request: true,
+            dns: true,
+            ..NOTHING
+        },
+        Course::Loaded { .. } => Wants {
+            document: true,
+            ..NOTHING
+        },
+        Course::Handed(_) | Course::NothingMore => NOTHING,
     }
-    w
 }
 
 // A8:7 to 29, 35 to 45, 48 to 50. `room` tells of what was put before.
-fn takes(
-    m: &mut Memory,
-    room: bool,
-    course: Course,
-    gone: Removal,
-    w: Waiting,
-    a: Answer,
-    f: Fresh,
-) -> Performed
-    ensures { Takes course (going gone) w a f room m.old m.new result }
+fn takes(m: &mut Memory, room: bool, course: Course, w: Waiting, a: Answer, f: Fresh) -> Performed
+    ensures { Takes course w a f room m.old m.new result }
 {
     match course {
         Course::Followed(u) => {
-            let old = w.url;
-            let to = with_fragment_of(old, u);
-            let o = redirection(to, w, a);
-            sending::http_send(m, room, o, f)
+            let to = with_fragment_of(w.url, u);
+            sending::http_send(m, room, redirection(to, w, a), f)
         }
-        Course::Loaded(v, was, place, script, state) => {
-            let n = f.document;
-            let row = new_document(v, place, n, w, a, script, state);
-            let entered = enter(m, gone, was, row);
-            stepping::silent(sorted::both(room, entered))
+        Course::Loaded {
+            window,
+            spot,
+            script,
+            state,
+        } => {
+            let row = new_document(window, spot.place, f.document, w, a, script, state);
+            let entered = enter(m, spot, row);
+            conclude(room && entered, None)
         }
         Course::Handed(row) => {
-            let filed = inputs::put(m, row);
-            stepping::silent(sorted::both(room, filed))
+            let filed = Inputs::put(m, row);
+            conclude(room && filed, None)
         }
-        Course::NothingMore => stepping::silent(room),
+        Course::NothingMore => conclude(room, None),
     }
 }
 
@@ -86,14 +81,10 @@ pub fn process_response(
 ) -> Performed
     ensures { Performs (process_response w.reference w a (cookies_in few)) f m.old m.new result }
 {
-    let reference = w.reference;
-    let plan = course_of(m, reference, a);
-    let course = plan.course;
-    let gone = plan.gone;
-    let wants = wanted(course);
-    if stepping::fresh::ready(m, f, wants) {
-        let room = act_on_headers(m, w, a, few);
-        return takes(m, room, course, gone, w, a, f);
+    let course = course_of(m, w.reference, a);
+    if !stepping::fresh::ready(m, f, wanted(course)) {
+        return Err(Refusal::NotFresh);
     }
-    stepping::refuse(Refusal::NotFresh)
+    let room = act_on_headers(m, w, a, few);
+    takes(m, room, course, w, a, f)
 }
