@@ -1,34 +1,14 @@
--- Names among cookies: from one place on, and among the guarded ones of a host.
+-- Whether one of the guarded cookies of a host has a name.
 use mathlib.Core.Path.{◌≡◌, refl, sym, ◌∙◌, ap}
 use mathlib.Core.Bool.{Bool, true, false, cond, ◌&&◌, ◌||◌}
 use mathlib.Core.List.{List, [], ◌∷◌}
 use Rattle.std.specs.Prelude.{Option, Some as some}
-use Prim.Native.Nat.{ℕ, ◌+◌, ◌≤◌, ◌<◌, min}
-use lib.ListN.{length, get_or, take, drop}
 use Rattle.types.specs.declared.Host.{Host}
 use Rattle.types.specs.declared.cookies.Cookie.{Cookie}
-use Rattle.types.specs.declared.cookies.CookieName.{CookieName}
 use Rattle.types.specs.declared.rows.HostCookie.{HostCookie}
 use Rattle.sorted.specs.Table.{find, keep, is_some}
-use Rattle.sorted.proofs.Count.{all-rows, next_row, no_row}
 use Rattle.tables.specs.Rows.{same_host, same_name}
-use Rattle.wim.specs.Cookies.{named, guarded}
-
-module _ (n : CookieName) (count capacity used : ℕ) (rows : List Cookie) (len : length rows ≡ capacity) (counts : used ≡ min count capacity) (i : ℕ) where
-  counted : named n (drop i (take used rows)) ≡ named n (drop i (take count rows))
-  counted = ap (λ (l : List Cookie). named n (drop i l)) (all-rows count capacity used rows len counts)
-
-  pub named_here : (d : Cookie) → i < used → same_name (get_or rows i d).name n ≡ true → true ≡ named n (drop i (take count rows))
-  named_here d h e =
-      ap (λ (b : Bool). b || named n (drop (i + 1) (take used rows))) (sym e) ∙ ap (named n) (sym (next_row count capacity used rows len counts i d h)) ∙ counted
-
-  pub named-further : (d : Cookie) → i < used → same_name (get_or rows i d).name n ≡ false → named n (drop (i + 1) (take count rows)) ≡ named n (drop i (take count rows))
-  named-further d h e =
-      ap (λ (l : List Cookie). named n (drop (i + 1) l)) (sym (all-rows count capacity used rows len counts))
-      ∙ ap (λ (b : Bool). b || named n (drop (i + 1) (take used rows))) (sym e) ∙ ap (named n) (sym (next_row count capacity used rows len counts i d h)) ∙ counted
-
-  pub named_nowhere : used ≤ i → false ≡ named n (drop i (take count rows))
-  named_nowhere h = ap (named n) (sym (no_row count capacity used rows len counts i h)) ∙ counted
+use Rattle.wim.specs.Cookies.{guarded}
 
 -- the guarded ones of a host are found in the whole table
 module _ (h : Host) (c : Cookie) where
@@ -38,7 +18,10 @@ module _ (h : Host) (c : Cookie) where
   abbrev guards : HostCookie → Bool
   guards r = same_name r.cookie.name c.name && r.cookie.httponly
 
-  pub guarded-found : (all : List HostCookie) → is_some (find (λ (r : HostCookie). of_host r && guards r) all) ≡ guarded (keep of_host all) c
+  abbrev pub guards_of : HostCookie → Bool
+  guards_of r = of_host r && guards r
+
+  pub guarded-found : (all : List HostCookie) → is_some (find guards_of all) ≡ guarded (keep of_host all) c
   unfolding find keep
   guarded-found [] = refl
   guarded-found (r ∷ all) = go (of_host r) (guards r) (find (λ (s : HostCookie). of_host s && guards s) all) (keep of_host all) refl (guarded-found all)

@@ -33,8 +33,11 @@ use types::{DocumentNumber, Host, Origin, Protocol, WindowNumber};
 fn is_guarded(m: &Memory, h: Host, c: Cookie) -> bool
     ensures { result ≡ guarded (keep (λ (o : HostCookie). same_host o.host h) (table host_cookies_in m.now)) c }
 {
-    Cookies::first(m, |old| old.host == h && old.cookie.name == c.name && old.cookie.httponly)
-        .is_some()
+    Cookies::first(
+        m,
+        |old| old.host == h && old.cookie.name == c.name && old.cookie.httponly,
+    )
+    .is_some()
 }
 
 // Definition 36: which of a script's cookies are stored, where h is the host of the script's document.
@@ -67,13 +70,11 @@ pub fn store_local(m: &mut Memory, o: Origin, v: Stored) -> bool
         LocalStorage::remove(m, o);
         true
     } else {
-        LocalStorage::put(
-            m,
-            LocalValue {
-                origin: o,
-                value: v,
-            },
-        )
+        let row = LocalValue {
+            origin: o,
+            value: v,
+        };
+        LocalStorage::put(m, row)
     }
 }
 
@@ -85,14 +86,12 @@ pub fn store_session(m: &mut Memory, o: Origin, top: WindowNumber, v: Stored) ->
         SessionStorage::remove(m, (o, top));
         true
     } else {
-        SessionStorage::put(
-            m,
-            SessionValue {
-                origin: o,
-                top,
-                value: v,
-            },
-        )
+        let row = SessionValue {
+            origin: o,
+            top,
+            value: v,
+        };
+        SessionStorage::put(m, row)
     }
 }
 

@@ -39,7 +39,11 @@ pub fn get_window(m: &Memory, d: Document, x: WindowNumber) -> Document
 fn with_state(d: Document, n: DocumentNumber, state: ScriptState) -> Document
     ensures { result ≡ changing n (with_state state) d }
 {
-    if d.number == n { Document { state, ..d } } else { d }
+    if d.number == n {
+        Document { state, ..d }
+    } else {
+        d
+    }
 }
 
 // A7:11 to 14. Whether there was room.

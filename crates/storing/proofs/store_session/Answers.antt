@@ -6,7 +6,7 @@ use Rattle.stepping.proofs.Carry.{and-puts, and_drops, put-carries, keep-carries
 use Rattle.storing.proofs.store_session.Goals as goal
 
 pub returns-then-v-eq0 : goal.returns-then-v-eq0
-returns-then-v-eq0 c = rw (eq-eqb _ _ c.if-v-eq0.true) (and-puts session_storage (keep-carries session_storage c.keep.ensures))
+returns-then-v-eq0 c = rw (eq-eqb _ _ c.if-v-eq0.true) (and-puts session_storage (keep-carries session_storage c.remove.ensures))
 
 pub returns-else-v-eq0 : goal.returns-else-v-eq0
 returns-else-v-eq0 c = rw (ne_eqb _ _ c.if-v-eq0.false) (and_drops session_storage (put-carries session_storage c.put.ensures))
