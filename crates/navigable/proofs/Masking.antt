@@ -10,7 +10,7 @@ use lib.Seq.{drop-cons, get_or-take}
 use Rattle.std.specs.Int.{from_bool}
 use Rattle.sorted.specs.Order.{bit}
 use Rattle.memory.specs.Rows.{rows, count, table, Read}
-use Rattle.memory.proofs.Table.{rows_length, counted}
+use Rattle.memory.proofs.Table.{counted}
 use Rattle.layouts.specs.Rows.{window_of}
 use Rattle.layouts.specs.Tables.{windows_in}
 use Rattle.wim.specs.Nouns.{WindowNumber, Window}

@@ -20,6 +20,7 @@ use told::Removal;
 use types::{DocumentNumbers, WindowNumber, WindowNumbers};
 use windows::Windows;
 
+// Into an array beside a count (types::WindowNumbers), since there is no heap to collect into.
 fn windows_under(m: &Memory, gone: DocumentNumbers) -> WindowNumbers
     ensures { window_numbers result ≡ (removal (table windows_in m.now) (table documents_in m.now) (document_numbers gone)).windows }
 {

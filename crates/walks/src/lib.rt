@@ -137,9 +137,10 @@ fn under_within(n: u32, m: &Memory, gone: DocumentNumbers, w: WindowNumber) -> b
         return false;
     }
     match above(m, w) {
-        Above::HeldBy(d) => labels::one_of(d.number, gone)
-            || under_within(n - 1, m, gone, d.window),
-        Above::Topmost | Above::Missing => false,
+        Above::Missing | Above::Topmost => false,
+        Above::HeldBy(d) => {
+            labels::one_of(d.number, gone) || under_within(n - 1, m, gone, d.window)
+        }
     }
 }
 
