@@ -11,6 +11,6 @@ pub mod references; // references, and the keys of requests
 pub use addresses::{is_secure, same_origin, same_protocol};
 pub use blank::{empty_jar, no_request, no_url};
 pub use cookies::{goes_over, pair_of, same_name};
-pub use mentions::{in_news, in_opener, in_parent, in_reference, in_seal, same};
+pub use mentions::{in_news, in_opener, in_parent, in_reference, in_seal, number, same};
 pub use numbers::{one_of, window_one_of};
 pub use references::{has_key, has_no_key, same_matching, same_reference};

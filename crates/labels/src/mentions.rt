@@ -1,24 +1,12 @@
 // Whether a label stands in a part of a row.
 ghost use Rattle.std.specs.Prelude.{◌≡◌};
-ghost use Rattle.tables.specs.Labels.{code, same_label, among, parent_label, opener_label, seal_label, leads, sender_label};
+ghost use Rattle.tables.specs.Labels.{same_label, among, parent_label, opener_label, seal_label, leads, sender_label};
 ghost use Rattle.tables.specs.View.{label_of};
 
 use types::rows::{News, Opener, Parent};
 use types::{Label, Reference, Seal};
 
-fn kind(l: Label) -> u8
-    ensures { result ≡ code (label_of l).0 }
-{
-    match l {
-        Label::OfWindow(_) => 0,
-        Label::OfRequest(_) => 1,
-        Label::OfDns(_) => 2,
-        Label::OfKey(_) => 3,
-        Label::OfDocument(_) => 4,
-    }
-}
-
-fn number(l: Label) -> u32
+pub fn number(l: Label) -> u32
     ensures { result ≡ (label_of l).1 }
 {
     match l {
@@ -33,46 +21,33 @@ fn number(l: Label) -> u32
 pub fn same(l: Label, m: Label) -> bool
     ensures { result ≡ same_label (label_of l) (label_of m) }
 {
-    let a = kind(l);
-    let b = kind(m);
-    let x = number(l);
-    let y = number(m);
-    sorted::both(a == b, x == y)
+    l == m
 }
 
 pub fn in_parent(l: Label, p: Parent) -> bool
     ensures { result ≡ among (label_of l) (parent_label p) }
 {
-    match p {
-        None => false,
-        Some(d) => same(l, Label::OfDocument(d)),
-    }
+    p.is_some_and(|d| l == Label::OfDocument(d))
 }
 
 pub fn in_opener(l: Label, p: Opener) -> bool
     ensures { result ≡ among (label_of l) (opener_label p) }
 {
-    match p {
-        None => false,
-        Some(w) => same(l, Label::OfWindow(w)),
-    }
+    p.is_some_and(|w| l == Label::OfWindow(w))
 }
 
 pub fn in_seal(l: Label, p: Seal) -> bool
     ensures { result ≡ among (label_of l) (seal_label p) }
 {
-    match p {
-        None => false,
-        Some(k) => same(l, Label::OfKey(k)),
-    }
+    p.is_some_and(|k| l == Label::OfKey(k))
 }
 
 pub fn in_reference(l: Label, p: Reference) -> bool
     ensures { result ≡ same_label (label_of l) (leads p) }
 {
     match p {
-        Reference::Req(w) => same(l, Label::OfWindow(w)),
-        Reference::Xhr(d, _) => same(l, Label::OfDocument(d)),
+        Reference::Req(w) => l == Label::OfWindow(w),
+        Reference::Xhr(d, _) => l == Label::OfDocument(d),
     }
 }
 
@@ -82,6 +57,6 @@ pub fn in_news(l: Label, p: News) -> bool
 {
     match p {
         News::Answered(_, _) => false,
-        News::Posted(w, _, _) => same(l, Label::OfWindow(w)),
+        News::Posted(w, _, _) => l == Label::OfWindow(w),
     }
 }

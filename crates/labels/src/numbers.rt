@@ -8,29 +8,11 @@ use types::{DocumentNumber, DocumentNumbers, WindowNumber, WindowNumbers};
 pub fn one_of(n: DocumentNumber, s: DocumentNumbers) -> bool
     ensures { result ≡ one_of n (document_numbers s) }
 {
-    let k = sorted::used(s.count, 64);
-    let mut i: usize = 0;
-    while i < k {
-        let m = s.rows[i];
-        if n.0 == m.0 {
-            return true;
-        }
-        i += 1;
-    }
-    false
+    s.rows[..s.count.min(s.rows.len())].contains(&n)
 }
 
-pub fn window_one_of(n: WindowNumber, s: WindowNumbers) -> bool
-    ensures { result ≡ window_one_of n (window_numbers s) }
+pub fn window_one_of(v: WindowNumber, s: WindowNumbers) -> bool
+    ensures { result ≡ window_one_of v (window_numbers s) }
 {
-    let k = sorted::used(s.count, 33);
-    let mut i: usize = 0;
-    while i < k {
-        let m = s.rows[i];
-        if n.0 == m.0 {
-            return true;
-        }
-        i += 1;
-    }
-    false
+    s.rows[..s.count.min(s.rows.len())].contains(&v)
 }
