@@ -6,11 +6,13 @@ ghost use Rattle.stepping.specs.Performs.{Performs};
 use crate::loading::{OPENS, load};
 use crate::sendings::page_sending;
 use memory::Memory;
+use rows::Table;
 use stepping::Performed;
 use storing::scene::Scene;
 use types::Url;
 use types::commands::Holder;
 use types::rows::{Document, Window};
+use windows::Windows;
 
 // A7:32 to 35: the frame is hung under the document e, and nobody opened its window.
 fn hang(m: &mut Memory, s: Scene, url: Url, e: Document) -> Performed
@@ -22,7 +24,7 @@ fn hang(m: &mut Memory, s: Scene, url: Url, e: Document) -> Performed
         opener: None,
     };
     let o = page_sending(s.document, url, false, row.number);
-    load(m, s, OPENS, o, |m| windows::put(m, row))
+    load(m, s, OPENS, o, |m| Windows::put(m, row))
 }
 
 // A7:27 to 35

@@ -10,11 +10,13 @@ ghost use Rattle.script_loads.specs.Navigation.{sent_into, opener_by, opened, in
 use crate::loading::{OPENS, SENDS, load};
 use crate::sendings::{form_sending, page_sending};
 use memory::Memory;
+use rows::Table;
 use stepping::Performed;
 use storing::scene::Scene;
 use types::commands::Target;
 use types::rows::{Document, Opener, Window};
 use types::{Cancelled, Data, Method, Reference, Sending, Url, WindowNumber};
+use windows::Windows;
 
 // What is loaded: by a link, with its address and whether it is noreferrer; by a form, with its address, method and data.
 #[derive(Clone, Copy)]
@@ -59,14 +61,14 @@ fn new_top_window(v: WindowNumber, opener: Opener) -> Window
 fn into_new(m: &mut Memory, s: Scene, l: Load) -> Performed
     ensures { Performs (into_new (storing s) (opener_by l s.window) (sent_into s.document l)) s.fresh m.old m.new result }
 {
-    let v = s.fresh.window;
-    let row = new_top_window(v, l.opener(s.window));
-    let o = l.sending(s.document, v);
+    let new = s.fresh.window;
+    let row = new_top_window(new, l.opener(s.window));
+    let o = l.sending(s.document, new);
     let change = |m: &mut Memory| -> bool
-        ensures { Carries (opened v row) (windows ∷ []) (pending_requests ∷ pending_dns ∷ []) m.old m.new result }
+        ensures { Carries (opened new row) (windows ∷ []) (pending_requests ∷ pending_dns ∷ []) m.old m.new result }
     {
-        let opened = windows::put(m, row);
-        sending::cancel(m, Cancelled::Labelled(Reference::Req(v)));
+        let opened = Windows::put(m, row);
+        sending::cancel(m, Cancelled::Labelled(Reference::Req(new)));
         opened
     };
     load(m, s, OPENS, o, change)
