@@ -12,17 +12,7 @@ use types::items::{Event, Item};
 fn closes(e: Event) -> bool
     ensures { result ≡ closes e }
 {
-    match e {
-        Event::RunScript(_, _) => false,
-        Event::Urlbar(_, _) => false,
-        Event::Reload(_) => false,
-        Event::GoForward(_) => false,
-        Event::GoBack(_) => false,
-        Event::CloseCorrupt => true,
-        Event::EncryptedAnswer(_, _) => false,
-        Event::PlainAnswer(_) => false,
-        Event::DnsResolved(_) => false,
-    }
+    matches!(e, Event::CloseCorrupt)
 }
 
 pub fn act(m: &mut Memory, item: Item) -> Performed

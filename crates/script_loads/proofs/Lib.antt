@@ -1,5 +1,3 @@
--- The ways through the commands that load something.
-pub mod Into
-pub mod Linked
-pub mod Hung
-pub mod Fetched
+-- The ways through the commands that load something, and how they end.
+pub mod Ends
+pub mod Ways

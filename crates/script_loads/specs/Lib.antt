@@ -1,3 +1,3 @@
--- What HREF and FORM share, and the window that IFRAME hangs.
+-- What HREF and FORM share, and what each command does behind the store.
 pub mod Navigation
-pub mod Frame
+pub mod Change

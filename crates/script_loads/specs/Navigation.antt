@@ -9,13 +9,15 @@ use Rattle.types.specs.declared.OriginHeader.TheVariants.{Unsent}
 use Rattle.types.specs.declared.Reference.TheVariants.{Req}
 use Rattle.types.specs.declared.Sending.{Sending}
 use Rattle.types.specs.declared.rows.Document.{Document}
+use Rattle.types.specs.declared.rows.Window.{Window}
 use Rattle.types.specs.Perhaps.{Opener}
 use Rattle.std.specs.Prelude.{Some as OpenedBy}
 use Rattle.sorted.specs.Table.{put}
-use Rattle.tables.specs.Tables.{windows}
+use Rattle.tables.specs.Tables.{windows, Tables, apply}
 use Rattle.tables.specs.Labels.{window}
 use Rattle.wim.specs.Program.{Program, edit, bring, ◌>>=◌, ◌>>◌}
 use Rattle.wim.specs.Sending.{cancel_nav, send}
+use Rattle.sending.specs.Cancels.{cancelled}
 use Rattle.wim.specs.Script.{no_data, get_navigable_window, new_top_window, opener_unless, sending_from, href_policy, form_sending}
 use Rattle.script_loads.specs.declared.navigation.Load.{Load}
 use Rattle.script_loads.specs.declared.navigation.Load.TheVariants.{Link, Form}
@@ -29,6 +31,10 @@ sent_into d (Form url method body) v = form_sending d url method body (Req v)
 abbrev pub opener_by : Load → WindowNumber → Opener
 opener_by (Link url noreferrer) w = opener_unless noreferrer w
 opener_by (Form url method body) w = OpenedBy w
+
+-- what a new window changes in the tables, before the request goes out
+abbrev pub opened : WindowNumber → Window → Tables → Tables
+opened v row b = cancelled (Labelled (Req v)) (apply windows (put row ∷ []) b)
 
 -- 25, 26 and 50, 51: what waits for the window is cancelled, and the request goes out
 abbrev pub into : (WindowNumber → Sending) → WindowNumber → Program

@@ -2,6 +2,7 @@
 #![tactic(auto)]
 
 mod sendings; // what goes out by each command
+mod loading; // how each of them ends
 mod navigation; // a page goes into a window, a new one or one that is there
 mod links; // HREF and FORM
 mod frames; // IFRAME

@@ -5,24 +5,18 @@ ghost use Rattle.stepping.specs.Performs.{Performs};
 
 use crate::navigation::{Load, navigate};
 use memory::Memory;
+use sending::request_tests::is_form_method;
 use stepping::Performed;
 use storing::scene::Scene;
 use types::commands::Target;
 use types::refusals::Refusal;
-use types::{Data, Fresh, Method, Url};
+use types::{Data, Method, Url};
 
 // A7:19 to 26
-pub fn href(
-    m: &mut Memory,
-    s: Scene,
-    url: Url,
-    noreferrer: bool,
-    target: Target,
-    f: Fresh,
-) -> Performed
-    ensures { Performs (href s.window s.document (storing s) url noreferrer target) f m.old m.new result }
+pub fn href(m: &mut Memory, s: Scene, url: Url, noreferrer: bool, target: Target) -> Performed
+    ensures { Performs (href s.window s.document (storing s) url noreferrer target) s.fresh m.old m.new result }
 {
-    navigate(m, s, Load::Link(url, noreferrer), target, f)
+    navigate(m, s, Load::Link(url, noreferrer), target)
 }
 
 // A7:36 to 51. GET and POST alone are a form's methods.
@@ -33,12 +27,11 @@ pub fn form(
     method: Method,
     data: Data,
     target: Target,
-    f: Fresh,
 ) -> Performed
-    ensures { Performs (form s.window s.document (storing s) url method «data» target) f m.old m.new result }
+    ensures { Performs (form s.window s.document (storing s) url method «data» target) s.fresh m.old m.new result }
 {
-    if sending::request_tests::is_form_method(method) {
-        return navigate(m, s, Load::Form(url, method, data), target, f);
+    if !is_form_method(method) {
+        return Err(Refusal::Stopped);
     }
-    stepping::refuse(Refusal::Stopped)
+    navigate(m, s, Load::Form(url, method, data), target)
 }

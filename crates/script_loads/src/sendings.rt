@@ -12,31 +12,6 @@ use types::{
     Data, Method, OriginHeader, Parameters, Policy, Reference, Sending, Url, WindowNumber,
 };
 
-fn sending_from(
-    d: Document,
-    reference: Reference,
-    method: Method,
-    url: Url,
-    parameters: Parameters,
-    body: Data,
-    origin: OriginHeader,
-    policy: Policy,
-) -> Sending
-    ensures { result ≡ sending_from d reference method url parameters body origin policy }
-{
-    let location = d.location;
-    Sending {
-        reference: reference,
-        method: method,
-        url: url,
-        parameters: parameters,
-        body: body,
-        origin: origin,
-        referrer: Some(location),
-        policy: policy,
-    }
-}
-
 // Neither data in a body nor an Origin.
 fn bodiless(
     d: Document,
@@ -48,64 +23,46 @@ fn bodiless(
 ) -> Sending
     ensures { result ≡ sending_from d reference method url parameters no_data Unsent policy }
 {
-    sending_from(
-        d,
+    Sending {
         reference,
         method,
         url,
         parameters,
-        Data(0),
-        OriginHeader::Unsent,
+        body: Data(0),
+        origin: OriginHeader::Unsent,
+        referrer: Some(d.location),
         policy,
-    )
+    }
 }
 
 // Data in the body, and the Origin with it.
 fn with_body(d: Document, reference: Reference, method: Method, url: Url, data: Data) -> Sending
     ensures { result ≡ sending_from d reference method url url.parameters «data» (From (origin_of d)) d.policy }
 {
-    let p = url.parameters;
-    let policy = d.policy;
-    let o = walks::origin_of(d);
-    sending_from(
-        d,
-        reference,
-        method,
-        url,
-        p,
-        data,
-        OriginHeader::From(o),
-        policy,
-    )
-}
-
-// A7:23, 24
-fn href_policy(noreferrer: bool, d: Document) -> Policy
-    ensures { result ≡ href_policy noreferrer d }
-{
-    if noreferrer {
-        return Policy::NoReferrer;
+    Sending {
+        body: data,
+        origin: OriginHeader::From(walks::origin_of(d)),
+        ..bodiless(d, reference, method, url, url.parameters, d.policy)
     }
-    let p = d.policy;
-    p
 }
 
-// A7:21 to 24
-pub fn href_sending(d: Document, url: Url, noreferrer: bool, v: WindowNumber) -> Sending
+// A7:21 to 24, of a link, and A7:32, of a frame, which has no noreferrer.
+pub fn page_sending(d: Document, url: Url, noreferrer: bool, v: WindowNumber) -> Sending
     ensures { result ≡ sending_from d (Req v) Get url url.parameters no_data Unsent (href_policy noreferrer d) }
 {
-    let p = url.parameters;
-    let policy = href_policy(noreferrer, d);
-    bodiless(d, Reference::Req(v), Method::Get, url, p, policy)
-}
-
-// A7:32
-pub fn frame_sending(d: Document, url: Url, v: WindowNumber) -> Sending
-    ensures { result ≡ sending_from d (Req v) Get url url.parameters no_data Unsent d.policy }
-{
-    let p = url.parameters;
-    let policy = d.policy;
-    bodiless(d, Reference::Req(v), Method::Get, url, p, policy)
+    let policy = if noreferrer {
+        Policy::NoReferrer
+    } else {
+        d.policy
+    };
+    bodiless(
+        d,
+        Reference::Req(v),
+        Method::Get,
+        url,
+        url.parameters,
+        policy,
+    )
 }
 
 // A7:41 to 49: the data of a GET goes into the parameters, of a POST into the body.
@@ -119,10 +76,10 @@ pub fn form_sending(
     ensures { result ≡ form_sending d url method «data» reference }
 {
     if is_get(method) {
-        let policy = d.policy;
-        return bodiless(d, reference, method, url, Parameters(data.0), policy);
+        bodiless(d, reference, method, url, Parameters(data.0), d.policy)
+    } else {
+        with_body(d, reference, method, url, data)
     }
-    with_body(d, reference, method, url, data)
 }
 
 // A7:65 to 70: the data of a GET or a HEAD goes nowhere.
@@ -136,9 +93,8 @@ pub fn xhr_sending(
     ensures { result ≡ xhr_sending d url method «data» reference }
 {
     if is_get_or_head(method) {
-        let p = url.parameters;
-        let policy = d.policy;
-        return bodiless(d, reference, method, url, p, policy);
+        bodiless(d, reference, method, url, url.parameters, d.policy)
+    } else {
+        with_body(d, reference, method, url, data)
     }
-    with_body(d, reference, method, url, data)
 }

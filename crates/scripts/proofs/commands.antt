@@ -1,5 +1,2 @@
--- The ways through a script's commands that send nothing.
-pub mod Sets
-pub mod Posts
+-- The ways through the commands that load nothing.
 pub mod Front
-pub mod Navigates

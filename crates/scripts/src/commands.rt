@@ -1,4 +1,5 @@
 // Commands of a script that send nothing (000 Algorithm 7): each looks and refuses first, then stores what every step stores, then makes its own change.
+mod ending; // how each of them ends
 mod going; // what goes when a window is closed
 mod moves; // BACK, FORWARD, CLOSE
 mod posting; // POSTMESSAGE

@@ -15,9 +15,10 @@ use types::commands::ScriptState;
 use types::cookies::SetCookies;
 use types::items::Output;
 use types::rows::Document;
-use types::{DocumentNumber, WindowNumber};
+use types::{DocumentNumber, Fresh, WindowNumber};
 
-// The window that a script runs in, its active document, the top-level window above; the cookies that CookieMerge leaves, and the script's output.
+// The window that a script runs in, its active document, the top-level window above; the cookies that CookieMerge leaves, the script's output, and
+// the fresh numbers that come with it.
 #[derive(Clone, Copy)]
 pub struct Scene {
     pub window: WindowNumber,
@@ -25,6 +26,7 @@ pub struct Scene {
     pub top: WindowNumber,
     pub merged: SetCookies,
     pub output: Output,
+    pub fresh: Fresh,
 }
 
 // GETWINDOW (000 A2): the active document of that window if it is reached and of the script's origin, otherwise the script's own.

@@ -1,14 +1,14 @@
 -- The windows that go: one more at the front.
 use mathlib.Core.Path.{◌≡◌, refl, sym, ◌∙◌, ap}
 use mathlib.Core.Bool.{Bool, true, false}
-use mathlib.Core.List.{List, ◌∷◌}
-use Prim.Native.Nat.{ℕ, ◌+◌, ◌≤◌, min}
+use mathlib.Core.List.{List, [], ◌∷◌, ◌++◌}
+use Prim.Native.Nat.{ℕ, ◌+◌, ◌-◌, ◌≤◌, min}
 use native.Mathlib.Nat.{min-eq_left, min-eq_right}
 use native.Mathlib.Numerals.{add-one}
 use native.Mathlib.Omega.{arith}
 use borrow.Author.Tests.{leb-true, leb-false}
 use lib.Dec.{leb}
-use lib.ListN.{length, take, length-map, length-take}
+use lib.ListN.{length, take, drop, set, length-map, length-take, length-drop}
 use lib.Seq.{take_all, take-take}
 use Rattle.types.specs.declared.DocumentNumber.{DocumentNumber}
 use Rattle.types.specs.declared.WindowNumber.{WindowNumber}
@@ -58,3 +58,16 @@ module _ (ws : List Window) (ds : List Document) (capacity : ℕ) (fits : length
       ap (λ (l : List WindowNumber). record { windows = l; documents = under.documents }) (e ∙ ap (λ (u : Removal). v ∷ take capacity u.windows) f ∙ ap (λ (l : List WindowNumber). v ∷ l) (under-fits own))
       ∙ ap (λ (u : Removal). record { windows = v ∷ (removal ws ds own).windows; documents = u.documents }) f
       ∙ ap (λ (l : List DocumentNumber). with_window v (removal ws ds l)) g
+
+-- THE LAST PLACE COMES ROUND to the front and is v's.
+module _ {A : Type 0} (v : A) where
+  first_set : (xs ys : List A) → length xs ≡ 1 → set (xs ++ ys) 0 v ≡ v ∷ ys
+  first_set [] ys e = absurd (omega arith)
+  first_set (x ∷ []) ys e = refl
+  first_set (x ∷ (y ∷ xs)) ys e = absurd (omega arith)
+
+  pub turned : (rows new : List A) → length rows ≡ 33 → new ≡ drop (length rows - 1) rows ++ take (length rows - 1) rows → set new 0 v ≡ take 33 (v ∷ rows)
+  turned rows new e f =
+      let g : new ≡ drop 32 rows ++ take 32 rows = f ∙ ap (λ (k : ℕ). drop (k - 1) rows ++ take (k - 1) rows) e in
+      let l = length-drop 32 rows in
+      ap (λ (u : List A). set u 0 v) g ∙ first_set (drop 32 rows) (take 32 rows) (omega arith)

@@ -1,63 +1,59 @@
 // What a script does to its own browser (000 A7:52 to 59): nothing beyond what every step stores, or the script, or a script's state, of a document is set.
-ghost use Rattle.std.specs.Prelude.{None as none};
-ghost use Rattle.tables.specs.Tables.{documents};
-ghost use Rattle.tables.specs.Rows.{with_state, with_script};
-ghost use Rattle.wim.specs.Program.{revise, done};
+ghost use Rattle.std.specs.Prelude.{true, [], map, None as none};
+ghost use Rattle.tables.specs.Tables.{documents, update};
+ghost use Rattle.tables.specs.Rows.{with_state, with_script, changing};
+ghost use Rattle.wim.specs.Program.{done};
 ghost use Rattle.wim.specs.Script.{setting};
-ghost use Rattle.documents.specs.Which.{changes};
+ghost use Rattle.stepping.specs.Holds.{Carries};
 ghost use Rattle.stepping.specs.Performs.{Performs};
 ghost use Rattle.storing.specs.Stored.{storing};
 
+use super::ending::end;
+use documents::Documents;
 use memory::Memory;
+use rows::Table;
 use stepping::Performed;
-use storing::scene::Scene;
+use storing::scene::{Scene, get_window};
 use types::commands::{Script, ScriptState};
-use types::refusals::Refusal;
-use types::{Fresh, WindowNumber};
+use types::rows::Document;
+use types::{DocumentNumber, WindowNumber};
 
-pub fn nothing(m: &mut Memory, s: Scene, f: Fresh) -> Performed
-    ensures { Performs (storing s (done none)) f m.old m.new result }
+pub fn nothing(m: &mut Memory, s: Scene) -> Performed
+    ensures { Performs (storing s (done none)) s.fresh m.old m.new result }
 {
-    if stepping::brings_none(f) {
-        let stored = storing::scene::store(m, s);
-        return stepping::silent(stored);
-    }
-    stepping::refuse(Refusal::NotFresh)
+    end(m, s, |_| true)
 }
 
-fn revised(m: &mut Memory, s: Scene, q: documents::Change, f: Fresh) -> Performed
-    ensures { Performs (storing s (revise documents (changes q) (done none))) f m.old m.new result }
+fn write_script(m: &mut Memory, n: DocumentNumber, v: Script)
+    ensures { Carries (update documents (map (changing n (with_script v)))) [] [] m.old m.new true }
 {
-    if stepping::brings_none(f) {
-        let room = storing::scene::store(m, s);
-        documents::revise(m, q);
-        return stepping::silent(room);
-    }
-    stepping::refuse(Refusal::NotFresh)
+    Documents::revise(m, |d| if d.number == n { Document { script: v, ..d } } else { d });
+}
+
+fn write_state(m: &mut Memory, n: DocumentNumber, v: ScriptState)
+    ensures { Carries (update documents (map (changing n (with_state v)))) [] [] m.old m.new true }
+{
+    Documents::revise(m, |d| if d.number == n { Document { state: v, ..d } } else { d });
 }
 
 // A7:52 to 55
-pub fn set_script(m: &mut Memory, s: Scene, x: WindowNumber, v: Script, f: Fresh) -> Performed
-    ensures { Performs (setting s.document (storing s) x (with_script v)) f m.old m.new result }
+pub fn set_script(m: &mut Memory, s: Scene, x: WindowNumber, v: Script) -> Performed
+    ensures { Performs (setting s.document (storing s) x (with_script v)) s.fresh m.old m.new result }
 {
-    let own = s.document;
-    let e = storing::scene::get_window(m, own, x);
-    let n = e.number;
-    revised(m, s, documents::Change::SetScript(n, v), f)
+    let n = get_window(m, s.document, x).number;
+    end(m, s, |m| {
+        write_script(m, n, v);
+        true
+    })
 }
 
 // A7:56 to 59
-pub fn set_script_state(
-    m: &mut Memory,
-    s: Scene,
-    x: WindowNumber,
-    v: ScriptState,
-    f: Fresh,
-) -> Performed
-    ensures { Performs (setting s.document (storing s) x (with_state v)) f m.old m.new result }
+pub fn set_script_state(m: &mut Memory, s: Scene, x: WindowNumber, v: ScriptState) -> Performed
+    ensures { Performs (setting s.document (storing s) x (with_state v)) s.fresh m.old m.new result }
 {
-    let own = s.document;
-    let e = storing::scene::get_window(m, own, x);
-    let n = e.number;
-    revised(m, s, documents::Change::SetState(n, v), f)
+    let n = get_window(m, s.document, x).number;
+    end(m, s, |m| {
+        write_state(m, n, v);
+        true
+    })
 }

@@ -1,2 +1,0 @@
--- What a script does in the window that it was found in.
-pub mod Acting
