@@ -1,19 +1,19 @@
-use Rattle.std.proofs.Common.{rules, ℕ, Bool, ◌≤◌, length, ◌≡◌, ◌+◌, ◌-◌, ◌*◌, ◌<◌, ◌/◌, ◌%◌, true, false, nat_eq, nat_lt, List, [], ◌∷◌, ◌++◌, slice_index_or, slice_set, bit_and, bit_or, Fits, w8, w32, w64, Bor, MutBor}
-use Rattle.seeking.specs.Sought.{Decides, Sought}
+-- At a byte that passes, at another, at the end.
+use Rattle.std.proofs.Common.{◌≡◌, ◌∙◌, refl, sym, subst, arith}
+use Rattle.seeking.proofs.Places.{ended, hit, again}
+use Rattle.seeking.specs.Sought.{Sought}
 use Rattle.seeking.proofs.find.Goals as goal
 
--- src/lib.rt:18:5
 pub loop-i-init : goal.loop-i-init
-loop-i-init g c = ?
+loop-i-init g c = λ p d. refl
 
--- src/lib.rt:20:13
 pub returns-then-test-clause-first : goal.returns-then-test-clause-first
-returns-then-test-clause-first g c = ?
+returns-then-test-clause-first g c = λ p d. hit p _ _ _ (c.loop-i.invariant p d) (omega arith) (sym (d _ _ c.test.ensures) ∙ c.if-test.true)
 
--- src/lib.rt:18:5
 pub loop-i-preserved : goal.loop-i-preserved
-loop-i-preserved g c = ?
+loop-i-preserved g c = λ p d. again p _ _ _ (c.loop-i.invariant p d) (omega arith) (sym (d _ _ c.test.ensures) ∙ c.if-test.false)
 
--- src/lib.rt:12:1
 pub returns-clause-first : goal.returns-clause-first
-returns-clause-first g c = ?
+returns-clause-first g c = λ p d.
+    let same : c.loop-i.i ≡ c.max.result = omega (arith, c.loop-i.auto.i-end, c.max.ensures) in
+    subst (λ r. Sought p c.args.s.now c.args.at r) same (ended p _ _ _ (c.loop-i.invariant p d) (omega arith))

@@ -1,6 +1,7 @@
-use Rattle.std.proofs.Common.{ℕ, Bool, ◌≤◌, length, ◌≡◌, ◌+◌, ◌-◌, ◌*◌, ◌<◌}
-use Rattle.seeking.specs.Sought.{Decides, Sought}
+-- What is left to seek from the place at hand is what was to be sought.
+use Rattle.std.proofs.Common.{◌≡◌, ℕ, Bool, ◌+◌, drop}
+use Rattle.seeking.specs.Sought.{Decides, until}
 use Rattle.seeking.proofs.find.Given as goal
 
 abbrev pub invariant-loop-i : goal.invariant-loop-i
-invariant-loop-i g l = ?
+invariant-loop-i g l = (p : ℕ → Bool) → Decides (goal.F-post g l.test) p → l.i + until p (drop l.i l.s) ≡ l.at + until p (drop l.at l.s)
