@@ -1,6 +1,7 @@
 -- The last number is in no table, and tells whether the browser is closed; four free rows.
 use mathlib.Core.Path.{◌≡◌, ap, ◌∙◌}
-use mathlib.Core.Bool.{Bool, true, not}
+use mathlib.Core.Bool.{Bool, true, not, ◌&&◌}
+use Rattle.std.proofs.Math.Bool.{and_assoc}
 use mathlib.Core.List.{List}
 use Prim.Native.Nat.{ℕ, ◌+◌, ◌-◌, ◌≤◌}
 use native.Mathlib.Omega.{arith}
@@ -40,3 +41,15 @@ free_rows m e t = four t (length (view m t)) (leb-true (length (view m t)) (cap 
     four : (u : Table) (n : ℕ) → n ≤ cap u - 4 → n + 4 ≤ cap u
     four = each (λ u. (n : ℕ) → n ≤ cap u - 4 → n + 4 ≤ cap u)
         (λ n h. omega (arith, h)) (λ n h. omega (arith, h)) (λ n h. omega (arith, h)) (λ n h. omega (arith, h)) (λ n h. omega (arith, h)) (λ n h. omega (arith, h)) (λ n h. omega (arith, h)) (λ n h. omega (arith, h)) (λ n h. omega (arith, h))
+
+-- TABLE BY TABLE, as the code asks.
+abbrev pub free : List ℕ → Table → Bool
+free m t = leb (length (view m t)) (cap t - 4)
+
+nine : (a b c d e f g h i : Bool) → (a && b && c && d && e && f && g && h && i) ≡ (a && (b && (c && (d && (e && (f && (g && (h && i))))))))
+nine a b c d e f g h i = simp and_assoc
+
+pub roomy-is : (m : List ℕ) {x : Bool}
+    → x ≡ (free m windows && free m documents && free m cookies && free m local_storage && free m session_storage && free m inputs && free m pending_dns && free m pending_requests && free m sts)
+    → x ≡ is_roomy m
+roomy-is m e = e ∙ nine (free m windows) (free m documents) (free m cookies) (free m local_storage) (free m session_storage) (free m inputs) (free m pending_dns) (free m pending_requests) (free m sts)

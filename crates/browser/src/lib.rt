@@ -4,16 +4,17 @@
 ghost use Rattle.std.specs.Prelude.{◌≡◌};
 ghost use Rattle.browser.specs.View.{is_closed, is_roomy, browser, with_closed};
 
-use cookies::COOKIES;
-use documents::DOCUMENTS;
-use inputs::INPUTS;
-use local_storage::LOCAL_STORAGE;
+use cookies::{COOKIES, Cookies};
+use documents::{DOCUMENTS, Documents};
+use inputs::{INPUTS, Inputs};
+use local_storage::{LOCAL_STORAGE, LocalStorage};
 use memory::Memory;
-use pending_dns::PENDING_DNS;
-use pending_requests::PENDING_REQUESTS;
-use session_storage::SESSION_STORAGE;
-use sts::STS;
-use windows::WINDOWS;
+use pending_dns::{PENDING_DNS, PendingDns};
+use pending_requests::{PENDING_REQUESTS, PendingRequests};
+use rows::Table;
+use session_storage::{SESSION_STORAGE, SessionStorage};
+use sts::{STS, Sts};
+use windows::{WINDOWS, Windows};
 
 // The last number.
 const CLOSED: usize = memory::TOTAL - 1;
@@ -21,32 +22,26 @@ const CLOSED: usize = memory::TOTAL - 1;
 pub fn is_closed(m: &Memory) -> bool
     ensures { result ≡ is_closed m.now }
 {
-    let n = memory::get(m, CLOSED);
-    sorted::not(n == 0)
+    memory::get(m, CLOSED) != 0
 }
 
 pub fn set_closed(m: &mut Memory, closed: bool)
     ensures { browser m.new ≡ with_closed closed (browser m.old) }
 {
-    memory::whole(m);
-    if closed {
-        m[CLOSED] = 1;
-    } else {
-        m[CLOSED] = 0;
-    }
+    m[CLOSED] = u32::from(closed);
 }
 
 // Whether every table has four free rows: no step puts more into one.
 pub fn is_roomy(m: &Memory) -> bool
     ensures { result ≡ is_roomy m.now }
 {
-    let hosts = sts::size(m) <= STS - 4;
-    let asked = sorted::both(pending_requests::size(m) <= PENDING_REQUESTS - 4, hosts);
-    let waits = sorted::both(pending_dns::size(m) <= PENDING_DNS - 4, asked);
-    let heard = sorted::both(inputs::size(m) <= INPUTS - 4, waits);
-    let session = sorted::both(session_storage::size(m) <= SESSION_STORAGE - 4, heard);
-    let local = sorted::both(local_storage::size(m) <= LOCAL_STORAGE - 4, session);
-    let set = sorted::both(cookies::size(m) <= COOKIES - 4, local);
-    let shown = sorted::both(documents::size(m) <= DOCUMENTS - 4, set);
-    sorted::both(windows::size(m) <= WINDOWS - 4, shown)
+    Windows::size(m) <= WINDOWS - 4
+        && Documents::size(m) <= DOCUMENTS - 4
+        && Cookies::size(m) <= COOKIES - 4
+        && LocalStorage::size(m) <= LOCAL_STORAGE - 4
+        && SessionStorage::size(m) <= SESSION_STORAGE - 4
+        && Inputs::size(m) <= INPUTS - 4
+        && PendingDns::size(m) <= PENDING_DNS - 4
+        && PendingRequests::size(m) <= PENDING_REQUESTS - 4
+        && Sts::size(m) <= STS - 4
 }

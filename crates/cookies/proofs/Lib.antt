@@ -1,3 +1,2 @@
 -- The laws of this table's rows.
-pub mod Coded
 pub mod Filled

@@ -1,193 +1,152 @@
 // The documents, by window and place in its history, in lent memory. Written by tools/tables.py.
 #![tactic(auto)]
 
-mod rows; // a row read from its numbers and written as them
-mod tests; // which rows are meant
-mod changes; // what is changed in a document
-
-ghost use Rattle.std.specs.Prelude.{◌≡◌, map, length};
-ghost use Rattle.sorted.specs.Table.{find, keep, looked};
-ghost use Rattle.memory.specs.Rows.{table, Found as Placed, Kept, Put, Revised, Cleared};
+ghost use Rattle.std.specs.Prelude.{◌≡◌, Bool, map, ℕ};
+ghost use Rattle.std.proofs.Common.{refl, rules};
+ghost use Rattle.sorted.specs.Table.{keep};
+ghost use Rattle.memory.specs.Rows.{table};
 ghost use Rattle.types.specs.Lists.{document_numbers};
+ghost use Rattle.tables.specs.Nouns.{Document};
 ghost use Rattle.tables.specs.Tables.{documents, key_of, cmp};
-ghost use Rattle.tables.specs.Labels.{clean};
-ghost use Rattle.tables.specs.View.{label_of};
-ghost use Rattle.documents.specs.Which.{passes, key_stands, spares, number_of, changes};
+ghost use Rattle.tables.specs.Labels.{mentions, clean};
+ghost use Rattle.rows.specs.Tables.{Decides};
+ghost use Rattle.rows.proofs.Clean.{clean_where_none};
 ghost use Rattle.layouts.specs.Tables.{documents_in};
+ghost use Rattle.layouts.specs.Rows.{document_of};
+ghost use Rattle.documents.specs.Told.{number_of};
 
-pub use changes::Change;
-use changes::changed;
 use memory::Memory;
-use rows::{COUNT, FIRST, WIDTH, blank, write};
-pub use rows::{DOCUMENTS, row, size};
-pub use tests::Which;
-use tests::{spared, stands, test};
+use rows::{Labelled, Table};
+use sorted::Order;
+use types::commands::{Script, ScriptState};
 use types::rows::Document;
 use types::{DocumentNumber, DocumentNumbers, Label, WindowNumber};
 
-// A row, if one was found. Where none was, `row` says nothing.
-#[derive(Clone, Copy)]
-pub struct Found {
-    pub found: bool,
-    pub row: Document,
-}
+// How many rows there is room for.
+pub const DOCUMENTS: usize = 64;
 
-// The place of the first row that does not stand before a key, whether it has that key, and how many rows count.
-fn seek(m: &Memory, window: WindowNumber, place: u32) -> sorted::At
-    ensures { Placed documents_in (key_stands window place) m.now result.place result.hit result.used }
-{
-    let n = size(m);
-    let mut i: usize = 0;
-    while i < n {
-        let o = stands(window, place, row(m, i));
-        if sorted::after(o) {
-            i += 1;
-        } else {
-            return sorted::At {
-                place: i,
-                hit: sorted::same(o),
-                used: n,
-            };
+pub struct Documents;
+
+impl Table for Documents {
+    type Row = Document;
+
+    type Head = Document;
+
+    type Key = (WindowNumber, u32);
+
+    const COUNT: usize = 161;
+
+    const WIDTH: usize = 20;
+
+    const CAPACITY: usize = DOCUMENTS;
+
+    ghost COUNT = { 161 };
+
+    ghost WIDTH = { 20 };
+
+    ghost CAPACITY = { 64 };
+
+    ghost decode = { document_of };
+
+    ghost head_of = { λ row. row };
+
+    ghost kept = { λ row. row };
+
+    ghost Sort = { ℕ × ℕ };
+
+    ghost sort = { λ key. (key.0.0, key.1) };
+
+    ghost key_of = { key_of documents };
+
+    ghost cmp = { cmp documents };
+
+    fn read(c: &[u32]) -> Document {
+        Document {
+            window: WindowNumber(layouts::number(c, 0)),
+            place: layouts::number(c, 1),
+            number: DocumentNumber(layouts::number(c, 2)),
+            location: layouts::url_at(c, 3),
+            policy: layouts::policy_of(layouts::number(c, 9)),
+            referrer: layouts::referrer_at(c, 10),
+            script: Script(layouts::number(c, 17)),
+            state: ScriptState(layouts::number(c, 18)),
+            active: layouts::flag_of(layouts::number(c, 19)),
         }
     }
-    sorted::At {
-        place: i,
-        hit: false,
-        used: n,
-    }
-}
 
-// The first row that passes a test.
-pub fn first(m: &Memory, q: Which) -> Found
-    ensures { looked result.found result.row ≡ find (passes q) (table documents_in m.now) }
-{
-    let n = size(m);
-    let mut i: usize = 0;
-    while i < n {
-        let found = row(m, i);
-        if test(found, q) {
-            return Found {
-                found: true,
-                row: found,
-            };
-        }
-        i += 1;
+    fn glance(c: &[u32]) -> Document {
+        Self::read(c)
     }
-    let none = blank();
-    Found {
-        found: false,
-        row: none,
-    }
-}
 
-// Only rows that pass a test stay. None is copied onto itself.
-pub fn keep(m: &mut Memory, q: Which)
-    ensures { Kept documents_in (passes q) m.old m.new }
-{
-    memory::whole(m);
-    let n = size(m);
-    let mut j: usize = 0;
-    let mut i: usize = 0;
-    while i < n {
-        let seen = row(m, i);
-        if test(seen, q) {
-            if j < i {
-                memory::carry(m, FIRST + i * WIDTH, FIRST + j * WIDTH, WIDTH);
-                j += 1;
-                i += 1;
-            } else {
-                j += 1;
-                i += 1;
-            }
-        } else {
-            i += 1;
+    fn write(c: &mut [u32], row: Document) {
+        let numbers = numbers_of(row);
+        if c.len() == numbers.len() {
+            c.copy_from_slice(&numbers);
         }
     }
-    m[COUNT] = j as u32;
-}
 
-// A row goes in, in the place of the one with its key; whether there was room. Where there was none, nothing changes.
-pub fn put(m: &mut Memory, row: Document) -> bool
-    ensures { Put documents_in (key_of documents) (cmp documents) row m.old m.new result }
-{
-    memory::whole(m);
-    let window = row.window;
-    let place = row.place;
-    let s = seek(m, window, place);
-    let at = s.place;
-    let n = s.used;
-    if s.hit {
-        write(m, at, row);
-        return true;
+    fn head(row: Document) -> Document {
+        row
     }
-    let room = n < DOCUMENTS;
-    if room {
-        memory::shift(m, FIRST + at * WIDTH, FIRST + n * WIDTH, WIDTH);
-        write(m, at, row);
-        m[COUNT] = (n + 1) as u32;
-        return true;
+
+    fn key(h: Document) -> (WindowNumber, u32) {
+        (h.window, h.place)
     }
-    false
-}
 
-// No row is left.
-pub fn clear(m: &mut Memory)
-    ensures { Cleared documents_in m.old m.new }
-{
-    memory::whole(m);
-    m[COUNT] = 0;
-}
-
-// Whether no row speaks of a label.
-pub fn clean(m: &Memory, l: Label) -> bool
-    ensures { result ≡ clean documents (label_of l) (table documents_in m.now) }
-{
-    sorted::not(first(m, Which::Mentions(l)).found)
-}
-
-// Only rows that are spared stay.
-pub fn without(m: &mut Memory, gone: DocumentNumbers)
-    ensures { Kept documents_in (spares gone) m.old m.new }
-{
-    memory::whole(m);
-    let n = size(m);
-    let mut k: usize = 0;
-    let mut i: usize = 0;
-    while i < n {
-        let seen = row(m, i);
-        if spared(seen, gone) {
-            if k < i {
-                memory::carry(m, FIRST + i * WIDTH, FIRST + k * WIDTH, WIDTH);
-                k += 1;
-                i += 1;
-            } else {
-                k += 1;
-                i += 1;
-            }
-        } else {
-            i += 1;
-        }
+    fn order(a: (WindowNumber, u32), b: (WindowNumber, u32)) -> Order {
+        sorted::then(
+            sorted::compare(a.0.0 as u64, b.0.0 as u64),
+            sorted::compare(a.1 as u64, b.1 as u64),
+        )
     }
-    m[COUNT] = k as u32;
+
+    ghost fits = { Prim.search rules };
+
+    ghost few = { Prim.search rules };
+
+    ghost same_key = { λ row. refl };
 }
 
-// How many rows pass a test.
-pub fn tally(m: &Memory, q: Which) -> usize
-    ensures { result ≡ length (keep (passes q) (table documents_in m.now)) }
-{
-    let n = size(m);
-    let mut some: usize = 0;
-    let mut i: usize = 0;
-    while i < n {
-        let seen = row(m, i);
-        if test(seen, q) {
-            some += 1;
-            i += 1;
-        } else {
-            i += 1;
-        }
+impl Labelled for Documents {
+    ghost mentions = { mentions documents };
+
+    ghost clean = { clean documents };
+
+    fn mentions(h: Document, l: Label) -> bool {
+        l == Label::OfWindow(h.window) || l == Label::OfDocument(h.number)
     }
-    some
+
+    ghost cleaned = { clean_where_none documents };
+}
+
+// A row's numbers.
+fn numbers_of(row: Document) -> [u32; 20]
+    ensures { document_of result ≡ row }
+{
+    let location = layouts::url_numbers(row.location);
+    let referrer = layouts::referrer_numbers(row.referrer);
+    [
+        row.window.0,
+        row.place,
+        row.number.0,
+        location[0],
+        location[1],
+        location[2],
+        location[3],
+        location[4],
+        location[5],
+        layouts::policy_tag(row.policy),
+        referrer[0],
+        referrer[1],
+        referrer[2],
+        referrer[3],
+        referrer[4],
+        referrer[5],
+        referrer[6],
+        row.script.0,
+        row.state.0,
+        layouts::flag(row.active),
+    ]
 }
 
 fn no_numbers() -> DocumentNumbers {
@@ -198,40 +157,19 @@ fn no_numbers() -> DocumentNumbers {
 }
 
 // The numbers of the documents that pass a test.
-pub fn numbers(m: &Memory, q: Which) -> DocumentNumbers
-    ensures { document_numbers result ≡ map number_of (keep (passes q) (table documents_in m.now)) }
+pub fn numbers<F: Fn(Document) -> bool>(m: &Memory, test: F) -> DocumentNumbers
+    requires { F.IsAlwaysCallable test }
+    ensures { (p : Document → Bool) → Decides F.post test (λ d. d) p → document_numbers result ≡ map number_of (keep p (table documents_in m.now)) }
 {
-    let n = size(m);
     let mut out = no_numbers();
-    let mut j: usize = 0;
-    let mut i: usize = 0;
-    while i < n {
-        let seen = row(m, i);
-        if test(seen, q) {
-            let v = seen.number;
-            out.rows[j] = v;
+    let mut j = 0;
+    for i in 0..Documents::size(m) {
+        let row = Documents::row(m, i);
+        if test(row) {
+            out.rows[j] = row.number;
             j += 1;
-            i += 1;
-        } else {
-            i += 1;
         }
     }
     out.count = j;
     out
-}
-
-// Each row changed in its place.
-pub fn revise(m: &mut Memory, q: Change)
-    ensures { Revised documents_in (changes q) m.old m.new }
-{
-    memory::whole(m);
-    let n = size(m);
-    let mut i: usize = 0;
-    while i < n {
-        let seen = row(m, i);
-        let v = changed(seen, q);
-        write(m, i, v);
-        i += 1;
-    }
-    m[COUNT] = i as u32;
 }

@@ -3,6 +3,7 @@
 #![tactic(auto)]
 
 ghost use Rattle.std.specs.Prelude.{◌≡◌, true, []};
+ghost use Rattle.tables.specs.Rows.{setting_active};
 ghost use Rattle.memory.specs.Rows.{table};
 ghost use Rattle.layouts.specs.Tables.{documents_in};
 ghost use Rattle.browser.specs.View.{view};
@@ -10,7 +11,9 @@ ghost use Rattle.stepping.specs.Holds.{Carries};
 ghost use Rattle.history.specs.Display.{display_at};
 ghost use Rattle.history.specs.Directions.{beside, way, turned};
 
+use documents::Documents;
 use memory::Memory;
+use rows::Table;
 use types::WindowNumber;
 use types::refusals::Missing;
 use types::rows::Document;
@@ -19,6 +22,7 @@ use types::rows::Document;
 pub type Display = Result<(WindowNumber, Document), Missing>;
 
 // "w ← Subwindows(s') such that s'.w.documents ≠ ⟨⟩ if possible; otherwise stop" (000 A9:10, 31, 38, 41)
+#[tactic(auto, unfolding(wim::specs::Program::observed))]
 pub fn displayed(m: &Memory, w: WindowNumber) -> Display
     ensures { result ≡ display_at w (view m.now) }
 {
@@ -37,14 +41,15 @@ pub enum Towards {
 fn beside(m: &Memory, w: WindowNumber, d: Document, q: Towards) -> Option<Document>
     ensures { result ≡ beside q w (table documents_in m.now) d }
 {
-    let place = d.place;
-    match q {
-        Towards::Before => documents::first(m, documents::Which::BeforeIn(w, place)),
-        Towards::After => documents::first(m, documents::Which::AfterIn(w, place)),
-    }
+    let other = match q {
+        Towards::Before => d.place.checked_sub(1),
+        Towards::After => d.place.checked_add(1),
+    };
+    Documents::first(m, |e| e.window == w && Some(e.place) == other)
 }
 
 // Line 2: from the place of the active document to that of the document beside it, if there is one.
+#[tactic(auto, unfolding(wim::specs::Walks::active_document))]
 pub fn look(m: &Memory, w: WindowNumber, q: Towards) -> Option<(u32, u32)>
     ensures { result ≡ way q w (table documents_in m.now) }
 {
@@ -53,10 +58,20 @@ pub fn look(m: &Memory, w: WindowNumber, q: Towards) -> Option<(u32, u32)>
     Some((d.place, e.place))
 }
 
+fn setting_active(d: Document, w: WindowNumber, place: u32, active: bool) -> Document
+    ensures { result ≡ setting_active w place active d }
+{
+    if d.window == w && d.place == place {
+        Document { active, ..d }
+    } else {
+        d
+    }
+}
+
 // Lines 3 to 5. CANCELNAV is given a bare number, which equals no reference, and changes nothing.
 pub fn turn(m: &mut Memory, w: WindowNumber, from: u32, to: u32)
     ensures { Carries (turned w from to) [] [] m.old m.new true }
 {
-    documents::revise(m, documents::Change::SetActive(w, from, false));
-    documents::revise(m, documents::Change::SetActive(w, to, true));
+    Documents::revise(m, |d| setting_active(d, w, from, false));
+    Documents::revise(m, |d| setting_active(d, w, to, true));
 }

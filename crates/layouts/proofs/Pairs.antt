@@ -11,7 +11,7 @@ use Rattle.sorted.proofs.Count.{all-rows, row_count, taken-fits, take_fill}
 use Rattle.sorted.proofs.Collect.{fill_more}
 use Rattle.tables.specs.Nouns.{Pair, Jar}
 use Rattle.tables.specs.Rows.{blank_pair, jar}
-use Rattle.memory.specs.Rows.{total, rows, count, table, over, Within}
+use Rattle.memory.specs.Rows.{rows, count, table, over, Within}
 use Rattle.memory.proofs.Table.{rows_length, row_at, rows-over, rows-count, count-count}
 use Rattle.memory.proofs.Frame.{within_refl, within-then, within-set, within-over}
 use Rattle.layouts.specs.Jars.{pair_from, pairs_in, jar_at, tidy, Wrote}
@@ -67,16 +67,16 @@ pub record Filing (p n : ℕ) (ps : List Pair) (m₀ m : List ℕ) (i : ℕ) : T
   pub len : length ps ≡ 64
   pub most : n ≤ 64
   pub within : i ≤ n
-  pub whole : length m ≡ total
+  pub whole : length m ≡ length m₀
   pub all : take i (rows (pairs_in p) m) ≡ take i ps
   pub rest : Within p (p + 193) m₀ m
 
 module _ {p n : ℕ} {ps : List Pair} {m₀ : List ℕ} where
-  pub file-start : (c : ℕ) → length ps ≡ 64 → n ≡ min c 64 → length m₀ ≡ total → Filing p n ps m₀ m₀ 0
-  file-start c l k w = record { len = l; most = omega arith; within = zero-le; whole = w; all = refl; rest = within_refl _ _ _ }
+  pub file-start : (c : ℕ) → length ps ≡ 64 → n ≡ min c 64 → Filing p n ps m₀ m₀ 0
+  file-start c l k = record { len = l; most = omega arith; within = zero-le; whole = refl; all = refl; rest = within_refl _ _ _ }
 
   module _ {m : List ℕ} {i : ℕ} (g : Filing p n ps m₀ m i) where
-    pub file-next : {m₁ : List ℕ} (x : List ℕ) (d : Pair) → i < n → p + 193 ≤ total → length x ≡ 3 → pair_from x ≡ get_or ps i d → m₁ ≡ over m (p + 1 + i * 3) x → Filing p n ps m₀ m₁ (i + 1)
+    pub file-next : {m₁ : List ℕ} (x : List ℕ) (d : Pair) → i < n → p + 193 ≤ length m₀ → length x ≡ 3 → pair_from x ≡ get_or ps i d → m₁ ≡ over m (p + 1 + i * 3) x → Filing p n ps m₀ m₁ (i + 1)
     file-next {m₁} x d h b l e q =
         let t : List Pair = rows (pairs_in p) m in
         let lt : length t ≡ 64 = rows_length (pairs_in p) m in
@@ -93,7 +93,7 @@ module _ {p n : ℕ} {ps : List Pair} {m₀ : List ℕ} where
           rest = within-then g.rest z;
         }
 
-    pub file-end : (j : Jar) → ps ≡ j.rows → n ≤ i → p + 193 ≤ total → n ≡ min j.count 64 → Wrote p j m₀ (set m p n)
+    pub file-end : (j : Jar) → ps ≡ j.rows → n ≤ i → p + 193 ≤ length m₀ → n ≡ min j.count 64 → Wrote p j m₀ (set m p n)
     file-end j s h b k =
         let w : i ≡ n = omega (arith, g.within) in
         let a : take n ps ≡ take j.count ps = all-rows j.count 64 n ps g.len k in
@@ -105,5 +105,5 @@ module _ {p n : ℕ} {ps : List Pair} {m₀ : List ℕ} where
         }
 
 -- no room, and nothing done
-pub file-none : (p : ℕ) (j : Jar) (m : List ℕ) → total < p + 193 → Wrote p j m m
+pub file-none : (p : ℕ) (j : Jar) (m : List ℕ) → length m < p + 193 → Wrote p j m m
 file-none p j m h = record { reads = λ q. absurd (omega (arith, q)); rest = λ q. absurd (omega (arith, q)); beyond = λ q. refl }

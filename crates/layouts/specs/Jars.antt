@@ -1,9 +1,9 @@
 -- A Cookie header as numbers is a table in itself: its count, then pairs of three numbers. What it says is always well-formed: blank behind the count.
-use Rattle.std.specs.Prelude.{◌≡◌, List, ℕ, ◌+◌, ◌%◌, ◌≤◌, ◌<◌, get_or}
+use Rattle.std.specs.Prelude.{◌≡◌, List, ℕ, ◌+◌, ◌%◌, ◌≤◌, ◌<◌, length, get_or}
 use Rattle.types.specs.Lists.{header_pairs}
 use Rattle.tables.specs.Nouns.{Pair, Jar}
 use Rattle.tables.specs.Rows.{jar}
-use Rattle.memory.specs.Rows.{total, Layout, Within, table}
+use Rattle.memory.specs.Rows.{Layout, Within, table}
 use Rattle.layouts.specs.Codes.{flag_of}
 
 abbrev pub pair_from : List ℕ → Pair
@@ -22,6 +22,6 @@ tidy j = jar (header_pairs j)
 
 -- a header is written at p, and nothing else changes; nothing at all where there is no room for one
 pub record Wrote (p : ℕ) (j : Jar) (m n : List ℕ) : Type 0 where
-  pub reads : p + 193 ≤ total → jar_at p n ≡ tidy j
-  pub rest : p + 193 ≤ total → Within p (p + 193) m n
-  pub beyond : total < p + 193 → n ≡ m
+  pub reads : p + 193 ≤ length m → jar_at p n ≡ tidy j
+  pub rest : p + 193 ≤ length m → Within p (p + 193) m n
+  pub beyond : length m < p + 193 → n ≡ m

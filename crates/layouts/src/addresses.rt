@@ -3,15 +3,14 @@ ghost use Rattle.std.specs.Prelude.{◌≡◌, get_or, take, drop};
 ghost use Rattle.layouts.specs.Codes.{site_of, origin_of, fragment_of, url_of, referrer_of};
 
 use super::single::{at, half, low, protocol_of, protocol_tag};
-use memory::Memory;
 use types::{Fragment, Host, Origin, OriginHeader, Parameters, Path, Referrer, Url};
 
-pub fn site_at(m: &Memory, p: usize) -> Origin
-    ensures { result ≡ site_of (take 2 (drop p m.now)) }
+pub fn site_at(c: &[u32], p: usize) -> Origin
+    ensures { result ≡ site_of (take 2 (drop p c.now)) }
 {
-    let over = protocol_of(at(m, p, 1));
+    let over = protocol_of(at(c, p, 1));
     Origin {
-        host: Host(half(at(m, p, 0))),
+        host: Host(half(at(c, p, 0))),
         protocol: over,
     }
 }
@@ -25,12 +24,12 @@ pub fn site_numbers(x: Origin) -> [u32; 2]
     [h, p]
 }
 
-pub fn origin_at(m: &Memory, p: usize) -> OriginHeader
-    ensures { result ≡ origin_of (take 3 (drop p m.now)) }
+pub fn origin_at(c: &[u32], p: usize) -> OriginHeader
+    ensures { result ≡ origin_of (take 3 (drop p c.now)) }
 {
-    let tag = at(m, p, 0);
-    let h = half(at(m, p, 1));
-    let over = protocol_of(at(m, p, 2));
+    let tag = at(c, p, 0);
+    let h = half(at(c, p, 1));
+    let over = protocol_of(at(c, p, 2));
     match tag {
         0 => OriginHeader::Unsent,
         1 => OriginHeader::Null,
@@ -74,16 +73,16 @@ fn fragment_numbers(x: Fragment) -> [u32; 2]
     }
 }
 
-pub fn url_at(m: &Memory, p: usize) -> Url
-    ensures { result ≡ url_of (take 6 (drop p m.now)) }
+pub fn url_at(c: &[u32], p: usize) -> Url
+    ensures { result ≡ url_of (take 6 (drop p c.now)) }
 {
-    let protocol = protocol_of(at(m, p, 0));
-    let fragment = fragment_of(at(m, p, 4), at(m, p, 5));
+    let protocol = protocol_of(at(c, p, 0));
+    let fragment = fragment_of(at(c, p, 4), at(c, p, 5));
     Url {
         protocol: protocol,
-        host: Host(half(at(m, p, 1))),
-        path: Path(half(at(m, p, 2))),
-        parameters: Parameters(at(m, p, 3)),
+        host: Host(half(at(c, p, 1))),
+        path: Path(half(at(c, p, 2))),
+        parameters: Parameters(at(c, p, 3)),
         fragment: fragment,
     }
 }
@@ -100,13 +99,12 @@ pub fn url_numbers(x: Url) -> [u32; 6]
     [p, h, q, x.parameters.0, f[0], f[1]]
 }
 
-pub fn referrer_at(m: &Memory, p: usize) -> Referrer
-    ensures { result ≡ referrer_of (take 7 (drop p m.now)) }
+pub fn referrer_at(c: &[u32], p: usize) -> Referrer
+    ensures { result ≡ referrer_of (take 7 (drop p c.now)) }
 {
-    memory::whole(m);
-    if p < memory::TOTAL {
-        let tag = at(m, p, 0);
-        let u = url_at(m, p + 1);
+    if p < c.len() {
+        let tag = at(c, p, 0);
+        let u = url_at(c, p + 1);
         if tag == 0 {
             return None;
         }

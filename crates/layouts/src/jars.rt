@@ -1,9 +1,8 @@
-// A Cookie header in a memory: its count, then 64 pairs of three numbers. Only pairs that count are read and written.
+// A Cookie header among numbers: its count, then 64 pairs of three numbers. Only pairs that count are read and written.
 ghost use Rattle.std.specs.Prelude.{◌≡◌, take, drop};
 ghost use Rattle.layouts.specs.Jars.{pair_from, jar_at, Wrote};
 
-use super::single::{at, flag, flag_of, half, low};
-use memory::Memory;
+use super::single::{at, flag, flag_of, half, low, number};
 use types::cookies::{CookieName, CookieValue, Jar, Pair};
 
 const PAIRS: usize = 64;
@@ -11,16 +10,16 @@ const PAIRS: usize = 64;
 // How many numbers a header takes.
 const WIDE: usize = 193;
 
-fn pair_at(m: &Memory, p: usize) -> Pair
-    ensures { result ≡ pair_from (take 3 (drop p m.now)) }
+fn pair_at(c: &[u32], p: usize) -> Pair
+    ensures { result ≡ pair_from (take 3 (drop p c.now)) }
 {
-    let n = half(at(m, p, 1));
+    let n = half(at(c, p, 1));
     Pair {
         name: CookieName {
-            prefixed: flag_of(at(m, p, 0)),
+            prefixed: flag_of(at(c, p, 0)),
             number: n,
         },
-        value: CookieValue(at(m, p, 2)),
+        value: CookieValue(at(c, p, 2)),
     }
 }
 
@@ -32,37 +31,28 @@ fn pair_numbers(x: Pair) -> [u32; 3]
     [f, n, x.value.0]
 }
 
-pub fn read(m: &Memory, p: usize) -> Jar
-    ensures { result ≡ jar_at p m.now }
+pub fn read(c: &[u32], p: usize) -> Jar
+    ensures { result ≡ jar_at p c.now }
 {
-    memory::whole(m);
     let mut out = labels::empty_jar();
-    if p < memory::TOTAL {
-        let n = memory::used(m, p, PAIRS);
-        let mut i: usize = 0;
-        while i < n {
-            let v = pair_at(m, p + 1 + i * 3);
-            out.rows[i] = v;
-            i += 1;
+    if p < c.len() {
+        let n = (number(c, p) as usize).min(PAIRS);
+        for i in 0..n {
+            out.rows[i] = pair_at(c, p + 1 + i * 3);
         }
         out.count = n;
     }
     out
 }
 
-pub fn write(m: &mut Memory, p: usize, j: Jar)
-    ensures { Wrote p j m.old m.new }
+pub fn write(c: &mut [u32], p: usize, j: Jar)
+    ensures { Wrote p j c.old c.new }
 {
-    memory::whole(m);
-    if p <= memory::TOTAL - WIDE {
-        let n = sorted::used(j.count, PAIRS);
-        let mut i: usize = 0;
-        while i < n {
-            let v = j.rows[i];
-            let c = pair_numbers(v);
-            memory::store(m, p + 1 + i * 3, &c);
-            i += 1;
+    if p <= c.len() && WIDE <= c.len() - p {
+        let n = j.count.min(PAIRS);
+        for i in 0..n {
+            memory::store(c, p + 1 + i * 3, &pair_numbers(j.rows[i]));
         }
-        m[p] = n as u32;
+        c[p] = n as u32;
     }
 }

@@ -3,15 +3,14 @@ ghost use Rattle.std.specs.Prelude.{◌≡◌, take, drop};
 ghost use Rattle.layouts.specs.Codes.{parent_of, opener_of, seal_of};
 
 use super::single::at;
-use memory::Memory;
 use types::rows::{Opener, Parent};
 use types::{DocumentNumber, KeyNumber, Seal, WindowNumber};
 
-pub fn parent_at(m: &Memory, p: usize) -> Parent
-    ensures { result ≡ parent_of (take 2 (drop p m.now)) }
+pub fn parent_at(c: &[u32], p: usize) -> Parent
+    ensures { result ≡ parent_of (take 2 (drop p c.now)) }
 {
-    let tag = at(m, p, 0);
-    let n = at(m, p, 1);
+    let tag = at(c, p, 0);
+    let n = at(c, p, 1);
     match tag {
         0 => None,
         _ => Some(DocumentNumber(n)),
@@ -27,11 +26,11 @@ pub fn parent_numbers(x: Parent) -> [u32; 2]
     }
 }
 
-pub fn opener_at(m: &Memory, p: usize) -> Opener
-    ensures { result ≡ opener_of (take 2 (drop p m.now)) }
+pub fn opener_at(c: &[u32], p: usize) -> Opener
+    ensures { result ≡ opener_of (take 2 (drop p c.now)) }
 {
-    let tag = at(m, p, 0);
-    let n = at(m, p, 1);
+    let tag = at(c, p, 0);
+    let n = at(c, p, 1);
     match tag {
         0 => None,
         _ => Some(WindowNumber(n)),
@@ -47,11 +46,11 @@ pub fn opener_numbers(x: Opener) -> [u32; 2]
     }
 }
 
-pub fn seal_at(m: &Memory, p: usize) -> Seal
-    ensures { result ≡ seal_of (take 2 (drop p m.now)) }
+pub fn seal_at(c: &[u32], p: usize) -> Seal
+    ensures { result ≡ seal_of (take 2 (drop p c.now)) }
 {
-    let tag = at(m, p, 0);
-    let n = at(m, p, 1);
+    let tag = at(c, p, 0);
+    let n = at(c, p, 1);
     match tag {
         0 => None,
         _ => Some(KeyNumber(n)),

@@ -1,4 +1,4 @@
-// Parts of rows, read from numbers of a memory and written as numbers. Any numbers say something; a writer's contract says what is read again.
+// Parts of rows, read from numbers and written as numbers. Any numbers say something; a writer's contract says what is read again.
 #![tactic(auto)]
 
 pub mod single; // what one number says
@@ -13,7 +13,7 @@ pub use addresses::{
 };
 pub use kin::{opener_at, opener_numbers, parent_at, parent_numbers, seal_at, seal_numbers};
 pub use single::{
-    flag, flag_of, half, low, method_of, method_tag, policy_of, policy_tag, protocol_of,
+    flag, flag_of, half, low, method_of, method_tag, number, policy_of, policy_tag, protocol_of,
     protocol_tag,
 };
 pub use waiting::{body_at, body_numbers, news_at, news_numbers, reference_at, reference_numbers};

@@ -2,26 +2,26 @@
 ghost use Rattle.std.specs.Prelude.{◌≡◌, ℕ, ◌<◌, ◌%◌, get_or, take, drop};
 ghost use Rattle.layouts.specs.Codes.{flag_of, protocol_of, method_of, policy_of};
 
-use memory::Memory;
 use types::{Method, Policy, Protocol};
 
 // Number k of a part that starts at p, however many numbers it has; beyond the end there are zeros.
-pub fn at(m: &Memory, p: usize, k: usize) -> u32
-    ensures { (w : ℕ) → k < w → result ≡ get_or (take w (drop p m.now)) k 0 }
+pub fn at(c: &[u32], p: usize, k: usize) -> u32
+    ensures { (w : ℕ) → k < w → result ≡ get_or (take w (drop p c.now)) k 0 }
 {
-    memory::whole(m);
-    if p < memory::TOTAL {
-        if k < memory::TOTAL {
-            return memory::get(m, p + k);
-        }
-    }
-    0
+    if p < c.len() && k < c.len() - p { c[p + k] } else { 0 }
+}
+
+// Number i; beyond the end there are zeros.
+pub fn number(c: &[u32], i: usize) -> u32
+    ensures { result ≡ get_or c.now i 0 }
+{
+    if i < c.len() { c[i] } else { 0 }
 }
 
 pub fn flag_of(tag: u32) -> bool
     ensures { result ≡ flag_of tag }
 {
-    sorted::not(tag == 0)
+    tag != 0
 }
 
 pub fn flag(b: bool) -> u32

@@ -4,7 +4,6 @@ ghost use Rattle.layouts.specs.Codes.{matching_of, reference_of, body_of, news_o
 
 use super::addresses::{site_at, site_numbers};
 use super::single::at;
-use memory::Memory;
 use types::answers::Body;
 use types::commands::{Script, ScriptState};
 use types::rows::News;
@@ -28,12 +27,12 @@ fn matching_numbers(x: Matching) -> [u32; 2]
     }
 }
 
-pub fn reference_at(m: &Memory, p: usize) -> Reference
-    ensures { result ≡ reference_of (take 4 (drop p m.now)) }
+pub fn reference_at(c: &[u32], p: usize) -> Reference
+    ensures { result ≡ reference_of (take 4 (drop p c.now)) }
 {
-    let tag = at(m, p, 0);
-    let n = at(m, p, 1);
-    let x = matching_of(at(m, p, 2), at(m, p, 3));
+    let tag = at(c, p, 0);
+    let n = at(c, p, 1);
+    let x = matching_of(at(c, p, 2), at(c, p, 3));
     match tag {
         0 => Reference::Req(WindowNumber(n)),
         _ => Reference::Xhr(DocumentNumber(n), x),
@@ -52,12 +51,12 @@ pub fn reference_numbers(x: Reference) -> [u32; 4]
     }
 }
 
-pub fn body_at(m: &Memory, p: usize) -> Body
-    ensures { result ≡ body_of (take 3 (drop p m.now)) }
+pub fn body_at(c: &[u32], p: usize) -> Body
+    ensures { result ≡ body_of (take 3 (drop p c.now)) }
 {
-    let tag = at(m, p, 0);
-    let n = at(m, p, 1);
-    let s = at(m, p, 2);
+    let tag = at(c, p, 0);
+    let n = at(c, p, 1);
+    let s = at(c, p, 2);
     match tag {
         0 => Body::Number(n),
         _ => Body::Page(Script(n), ScriptState(s)),
@@ -73,20 +72,19 @@ pub fn body_numbers(x: Body) -> [u32; 3]
     }
 }
 
-pub fn news_at(m: &Memory, p: usize) -> News
-    ensures { result ≡ news_of (take 6 (drop p m.now)) }
+pub fn news_at(c: &[u32], p: usize) -> News
+    ensures { result ≡ news_of (take 6 (drop p c.now)) }
 {
-    memory::whole(m);
-    if p < memory::TOTAL {
-        let tag = at(m, p, 0);
+    if p < c.len() {
+        let tag = at(c, p, 0);
         if tag == 0 {
-            let x = matching_of(at(m, p, 1), at(m, p, 2));
-            let b = body_at(m, p + 3);
+            let x = matching_of(at(c, p, 1), at(c, p, 2));
+            let b = body_at(c, p + 3);
             return News::Answered(x, b);
         }
-        let w = at(m, p, 1);
-        let o = site_at(m, p + 2);
-        let n = at(m, p, 4);
+        let w = at(c, p, 1);
+        let o = site_at(c, p + 2);
+        let n = at(c, p, 4);
         return News::Posted(WindowNumber(w), o, n);
     }
     News::Answered(None, Body::Number(0))

@@ -1,134 +1,99 @@
 // What scripts keep in local storage, by origin, in lent memory. Written by tools/tables.py.
 #![tactic(auto)]
 
-mod rows; // a row read from its numbers and written as them
-mod tests; // which rows are meant
+ghost use Rattle.std.specs.Prelude.{◌≡◌, Bool, ℕ};
+ghost use Rattle.std.proofs.Common.{refl, rules};
+ghost use Rattle.tables.specs.Tables.{local_storage, key_of, cmp, is_secure};
+ghost use Rattle.layouts.specs.Rows.{local_value_of};
 
-ghost use Rattle.std.specs.Prelude.{◌≡◌};
-ghost use Rattle.sorted.specs.Table.{find, looked};
-ghost use Rattle.memory.specs.Rows.{table, Found as Placed, Kept, Put, Cleared};
-ghost use Rattle.tables.specs.Tables.{local_storage, key_of, cmp};
-ghost use Rattle.local_storage.specs.Which.{passes, key_stands};
-ghost use Rattle.layouts.specs.Tables.{local_in};
-
-use memory::Memory;
-use rows::{COUNT, FIRST, WIDTH, blank, write};
-pub use rows::{LOCAL_STORAGE, row, size};
-pub use tests::Which;
-use tests::{stands, test};
+use rows::Table;
+use sorted::Order;
+use types::Origin;
+use types::items::Stored;
 use types::rows::LocalValue;
-use types::{Host, Protocol};
 
-// A row, if one was found. Where none was, `row` says nothing.
-#[derive(Clone, Copy)]
-pub struct Found {
-    pub found: bool,
-    pub row: LocalValue,
-}
+// How many rows there is room for.
+pub const LOCAL_STORAGE: usize = 32;
 
-// The place of the first row that does not stand before a key, whether it has that key, and how many rows count.
-fn seek(m: &Memory, host: Host, protocol: Protocol) -> sorted::At
-    ensures { Placed local_in (key_stands host protocol) m.now result.place result.hit result.used }
-{
-    let n = size(m);
-    let mut i: usize = 0;
-    while i < n {
-        let o = stands(host, protocol, row(m, i));
-        if sorted::after(o) {
-            i += 1;
-        } else {
-            return sorted::At {
-                place: i,
-                hit: sorted::same(o),
-                used: n,
-            };
+pub struct LocalStorage;
+
+impl Table for LocalStorage {
+    type Row = LocalValue;
+
+    type Head = LocalValue;
+
+    type Key = Origin;
+
+    const COUNT: usize = 1891;
+
+    const WIDTH: usize = 3;
+
+    const CAPACITY: usize = LOCAL_STORAGE;
+
+    ghost COUNT = { 1891 };
+
+    ghost WIDTH = { 3 };
+
+    ghost CAPACITY = { 32 };
+
+    ghost decode = { local_value_of };
+
+    ghost head_of = { λ row. row };
+
+    ghost kept = { λ row. row };
+
+    ghost Sort = { ℕ × Bool };
+
+    ghost sort = { λ key. (key.host.0, is_secure key.protocol) };
+
+    ghost key_of = { key_of local_storage };
+
+    ghost cmp = { cmp local_storage };
+
+    fn read(c: &[u32]) -> LocalValue {
+        LocalValue {
+            origin: layouts::site_at(c, 0),
+            value: Stored(layouts::number(c, 2)),
         }
     }
-    sorted::At {
-        place: i,
-        hit: false,
-        used: n,
-    }
-}
 
-// The first row that passes a test.
-pub fn first(m: &Memory, q: Which) -> Found
-    ensures { looked result.found result.row ≡ find (passes q) (table local_in m.now) }
-{
-    let n = size(m);
-    let mut i: usize = 0;
-    while i < n {
-        let found = row(m, i);
-        if test(found, q) {
-            return Found {
-                found: true,
-                row: found,
-            };
-        }
-        i += 1;
+    fn glance(c: &[u32]) -> LocalValue {
+        Self::read(c)
     }
-    let none = blank();
-    Found {
-        found: false,
-        row: none,
-    }
-}
 
-// Only rows that pass a test stay. None is copied onto itself.
-pub fn keep(m: &mut Memory, q: Which)
-    ensures { Kept local_in (passes q) m.old m.new }
-{
-    memory::whole(m);
-    let n = size(m);
-    let mut j: usize = 0;
-    let mut i: usize = 0;
-    while i < n {
-        let seen = row(m, i);
-        if test(seen, q) {
-            if j < i {
-                memory::carry(m, FIRST + i * WIDTH, FIRST + j * WIDTH, WIDTH);
-                j += 1;
-                i += 1;
-            } else {
-                j += 1;
-                i += 1;
-            }
-        } else {
-            i += 1;
+    fn write(c: &mut [u32], row: LocalValue) {
+        let numbers = numbers_of(row);
+        if c.len() == numbers.len() {
+            c.copy_from_slice(&numbers);
         }
     }
-    m[COUNT] = j as u32;
+
+    fn head(row: LocalValue) -> LocalValue {
+        row
+    }
+
+    fn key(h: LocalValue) -> Origin {
+        h.origin
+    }
+
+    fn order(a: Origin, b: Origin) -> Order {
+        sorted::then(
+            sorted::compare(a.host.0 as u64, b.host.0 as u64),
+            sorted::compare_bools(labels::is_secure(a.protocol), labels::is_secure(b.protocol)),
+        )
+    }
+
+    ghost fits = { Prim.search rules };
+
+    ghost few = { Prim.search rules };
+
+    ghost same_key = { λ row. refl };
 }
 
-// A row goes in, in the place of the one with its key; whether there was room. Where there was none, nothing changes.
-pub fn put(m: &mut Memory, row: LocalValue) -> bool
-    ensures { Put local_in (key_of local_storage) (cmp local_storage) row m.old m.new result }
+// A row's numbers.
+fn numbers_of(row: LocalValue) -> [u32; 3]
+    ensures { local_value_of result ≡ row }
 {
-    memory::whole(m);
-    let origin = row.origin;
-    let host = origin.host;
-    let protocol = origin.protocol;
-    let s = seek(m, host, protocol);
-    let at = s.place;
-    let n = s.used;
-    if s.hit {
-        write(m, at, row);
-        return true;
-    }
-    let room = n < LOCAL_STORAGE;
-    if room {
-        memory::shift(m, FIRST + at * WIDTH, FIRST + n * WIDTH, WIDTH);
-        write(m, at, row);
-        m[COUNT] = (n + 1) as u32;
-        return true;
-    }
-    false
-}
-
-// No row is left.
-pub fn clear(m: &mut Memory)
-    ensures { Cleared local_in m.old m.new }
-{
-    memory::whole(m);
-    m[COUNT] = 0;
+    let origin = layouts::site_numbers(row.origin);
+    [origin[0], origin[1], row.value.0]
 }

@@ -49,8 +49,8 @@ shifted m p e w = take (p + w) m ++ (take (e - p) (drop p m) ++ drop (e + w) m)
 -- THE MOVES OF NUMBERS, for any places and lengths.
 -- c is written from p on where there is room for all of it; else nothing changes
 pub record Stored (m : List ℕ) (p : ℕ) (c n : List ℕ) : Type 0 where
-  pub fits : p + length c ≤ total → n ≡ over m p c
-  pub beyond : total < p + length c → n ≡ m
+  pub fits : p + length c ≤ length m → n ≡ over m p c
+  pub beyond : length m < p + length c → n ≡ m
 
 -- w numbers from p on are copied to q, which is not above; else nothing changes
 pub record Carried (m : List ℕ) (p q w : ℕ) (n : List ℕ) : Type 0 where

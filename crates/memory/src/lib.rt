@@ -20,7 +20,6 @@ pub fn whole(m: &Memory)
 pub fn get(m: &Memory, i: usize) -> u32
     ensures { result ≡ get_or m.now i 0 }
 {
-    whole(m);
     if i < TOTAL { m[i] } else { 0 }
 }
 
@@ -28,23 +27,15 @@ pub fn get(m: &Memory, i: usize) -> u32
 pub fn used(m: &Memory, p: usize, capacity: usize) -> usize
     ensures { result ≡ min (get_or m.now p 0) capacity }
 {
-    let n = get(m, p);
-    sorted::used(n as usize, capacity)
+    (get(m, p) as usize).min(capacity)
 }
 
 // The numbers of c from p on, where there is room for all of them.
-pub fn store(m: &mut Memory, p: usize, c: &[u32])
+pub fn store(m: &mut [u32], p: usize, c: &[u32])
     ensures { Stored m.old p c.now m.new }
 {
-    whole(m);
-    if p <= TOTAL {
-        if c.len() <= TOTAL - p {
-            let mut i: usize = 0;
-            while i < c.len() {
-                m[p + i] = c[i];
-                i += 1;
-            }
-        }
+    if p <= m.len() && c.len() <= m.len() - p {
+        m[p..p + c.len()].copy_from_slice(c);
     }
 }
 
@@ -52,16 +43,9 @@ pub fn store(m: &mut Memory, p: usize, c: &[u32])
 pub fn carry(m: &mut Memory, p: usize, q: usize, w: usize)
     ensures { Carried m.old p q w m.new }
 {
-    whole(m);
-    if q <= p {
-        if p <= TOTAL {
-            if w <= TOTAL - p {
-                let mut i: usize = 0;
-                while i < w {
-                    m[q + i] = m[p + i];
-                    i += 1;
-                }
-            }
+    if q <= p && p <= TOTAL && w <= TOTAL - p {
+        for i in 0..w {
+            m[q + i] = m[p + i];
         }
     }
 }
@@ -70,16 +54,9 @@ pub fn carry(m: &mut Memory, p: usize, q: usize, w: usize)
 pub fn shift(m: &mut Memory, p: usize, e: usize, w: usize)
     ensures { Lifted m.old p e w m.new }
 {
-    whole(m);
-    if p <= e {
-        if e <= TOTAL {
-            if w <= TOTAL - e {
-                let mut i = e;
-                while p < i {
-                    i -= 1;
-                    m[i + w] = m[i];
-                }
-            }
+    if p <= e && e <= TOTAL && w <= TOTAL - e {
+        for i in (p..e).rev() {
+            m[i + w] = m[i];
         }
     }
 }

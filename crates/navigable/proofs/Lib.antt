@@ -1,5 +1,4 @@
 -- What the code's proofs cite: a law for each way through a rule, the loop that makes the number, and its first row.
 pub mod Rules
 pub mod Masking
-pub mod Sets
 pub mod Firsts

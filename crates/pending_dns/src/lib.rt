@@ -1,143 +1,165 @@
 // The requests that wait for their host's address, by number, in lent memory. Written by tools/tables.py.
 #![tactic(auto)]
 
-mod rows; // a row read from its numbers and written as them
-mod tests; // which rows are meant
+mod heads; // what tests look at
 
-ghost use Rattle.std.specs.Prelude.{◌≡◌};
-ghost use Rattle.sorted.specs.Table.{find, looked};
-ghost use Rattle.memory.specs.Rows.{table, Found as Placed, Kept, Put, Cleared};
-ghost use Rattle.tables.specs.Tables.{pending_dns, key_of, cmp};
+ghost use Rattle.std.specs.Prelude.{◌≡◌, ℕ};
+ghost use Rattle.std.proofs.Common.{refl, rules};
+ghost use Rattle.tables.specs.Tables.{pending_dns, cmp};
 ghost use Rattle.tables.specs.Labels.{clean};
-ghost use Rattle.tables.specs.View.{label_of};
-ghost use Rattle.pending_dns.specs.Which.{passes, key_stands};
-ghost use Rattle.layouts.specs.Tables.{questions_in};
+ghost use Rattle.rows.proofs.Clean.{clean_where_none};
+ghost use Rattle.pending_dns.specs.Heads.{head_of, head_mentions};
 ghost use Rattle.pending_dns.specs.Tidied.{tidied};
+ghost use Rattle.layouts.specs.Rows.{question_of, question_of_with};
 
-use memory::Memory;
-use rows::{COUNT, FIRST, WIDTH, blank, head_at, write};
-pub use rows::{PENDING_DNS, row, size};
-pub use tests::Which;
-use tests::{stands, test};
+pub use heads::Head;
+use rows::{Labelled, Table};
+use sorted::Order;
 use types::rows::Question;
-use types::{DnsNumber, Label};
+use types::{Data, DnsNumber, Host, Label, Parameters, Path, Request, RequestNumber};
 
-// A row, if one was found. Where none was, `row` says nothing.
-#[derive(Clone, Copy)]
-pub struct Found {
-    pub found: bool,
-    pub row: Question,
-}
+// How many rows there is room for.
+pub const PENDING_DNS: usize = 16;
 
-// The place of the first row that does not stand before a key, whether it has that key, and how many rows count.
-fn seek(m: &Memory, number: DnsNumber) -> sorted::At
-    ensures { Placed questions_in (key_stands number) m.now result.place result.hit result.used }
-{
-    let n = size(m);
-    let mut i: usize = 0;
-    while i < n {
-        let o = stands(number, head_at(m, i));
-        if sorted::after(o) {
-            i += 1;
-        } else {
-            return sorted::At {
-                place: i,
-                hit: sorted::same(o),
-                used: n,
-            };
+pub struct PendingDns;
+
+impl Table for PendingDns {
+    type Row = Question;
+
+    type Head = Head;
+
+    type Key = DnsNumber;
+
+    const COUNT: usize = 2630;
+
+    const WIDTH: usize = 220;
+
+    const CAPACITY: usize = PENDING_DNS;
+
+    ghost COUNT = { 2630 };
+
+    ghost WIDTH = { 220 };
+
+    ghost CAPACITY = { 16 };
+
+    ghost decode = { question_of };
+
+    ghost head_of = { head_of };
+
+    ghost kept = { tidied };
+
+    ghost Sort = { ℕ };
+
+    ghost sort = { λ key. key.0 };
+
+    ghost key_of = { λ h. h.number.0 };
+
+    ghost cmp = { cmp pending_dns };
+
+    fn read(c: &[u32]) -> Question {
+        Question {
+            number: DnsNumber(layouts::number(c, 0)),
+            reference: layouts::reference_at(c, 1),
+            request: Request {
+                number: RequestNumber(layouts::number(c, 5)),
+                method: layouts::method_of(layouts::number(c, 6)),
+                host: Host(layouts::half(layouts::number(c, 7))),
+                path: Path(layouts::half(layouts::number(c, 8))),
+                parameters: Parameters(layouts::number(c, 9)),
+                cookies: layouts::jars::read(c, 27),
+                origin: layouts::origin_at(c, 10),
+                referrer: layouts::referrer_at(c, 13),
+                body: Data(layouts::number(c, 20)),
+            },
+            url: layouts::url_at(c, 21),
         }
     }
-    sorted::At {
-        place: i,
-        hit: false,
-        used: n,
-    }
-}
 
-// The first row that passes a test.
-pub fn first(m: &Memory, q: Which) -> Found
-    ensures { looked result.found result.row ≡ find (passes q) (table questions_in m.now) }
-{
-    let n = size(m);
-    let mut i: usize = 0;
-    while i < n {
-        let h = head_at(m, i);
-        if test(h, q) {
-            let found = row(m, i);
-            return Found {
-                found: true,
-                row: found,
-            };
-        }
-        i += 1;
-    }
-    let none = blank();
-    Found {
-        found: false,
-        row: none,
-    }
-}
-
-// Only rows that pass a test stay. None is copied onto itself.
-pub fn keep(m: &mut Memory, q: Which)
-    ensures { Kept questions_in (passes q) m.old m.new }
-{
-    memory::whole(m);
-    let n = size(m);
-    let mut j: usize = 0;
-    let mut i: usize = 0;
-    while i < n {
-        let h = head_at(m, i);
-        if test(h, q) {
-            if j < i {
-                memory::carry(m, FIRST + i * WIDTH, FIRST + j * WIDTH, WIDTH);
-                j += 1;
-                i += 1;
-            } else {
-                j += 1;
-                i += 1;
-            }
-        } else {
-            i += 1;
+    fn glance(c: &[u32]) -> Head {
+        Head {
+            number: DnsNumber(layouts::number(c, 0)),
+            reference: layouts::reference_at(c, 1),
+            request: RequestNumber(layouts::number(c, 5)),
         }
     }
-    m[COUNT] = j as u32;
-}
 
-// A row goes in, in the place of the one with its key; whether there was room. Where there was none, nothing changes. What stood behind the count of its header is not written.
-pub fn put(m: &mut Memory, row: Question) -> bool
-    ensures { Put questions_in (key_of pending_dns) (cmp pending_dns) (tidied row) m.old m.new result }
-{
-    memory::whole(m);
-    let number = row.number;
-    let s = seek(m, number);
-    let at = s.place;
-    let n = s.used;
-    if s.hit {
-        write(m, at, row);
-        return true;
+    fn write(c: &mut [u32], row: Question) {
+        memory::store(c, 0, &numbers_of(row));
+        layouts::jars::write(c, 27, row.request.cookies);
     }
-    let room = n < PENDING_DNS;
-    if room {
-        memory::shift(m, FIRST + at * WIDTH, FIRST + n * WIDTH, WIDTH);
-        write(m, at, row);
-        m[COUNT] = (n + 1) as u32;
-        return true;
+
+    fn head(row: Question) -> Head {
+        Head {
+            number: row.number,
+            reference: row.reference,
+            request: row.request.number,
+        }
     }
-    false
+
+    fn key(h: Head) -> DnsNumber {
+        h.number
+    }
+
+    fn order(a: DnsNumber, b: DnsNumber) -> Order {
+        sorted::compare(a.0 as u64, b.0 as u64)
+    }
+
+    ghost fits = { Prim.search rules };
+
+    ghost few = { Prim.search rules };
+
+    ghost same_key = { λ row. refl };
 }
 
-// No row is left.
-pub fn clear(m: &mut Memory)
-    ensures { Cleared questions_in m.old m.new }
-{
-    memory::whole(m);
-    m[COUNT] = 0;
+impl Labelled for PendingDns {
+    ghost mentions = { head_mentions };
+
+    ghost clean = { clean pending_dns };
+
+    fn mentions(h: Head, l: Label) -> bool {
+        l == Label::OfDns(h.number)
+            || l == Label::OfRequest(h.request)
+            || labels::in_reference(l, h.reference)
+    }
+
+    ghost cleaned = { clean_where_none pending_dns };
 }
 
-// Whether no row speaks of a label.
-pub fn clean(m: &Memory, l: Label) -> bool
-    ensures { result ≡ clean pending_dns (label_of l) (table questions_in m.now) }
+// A row's numbers, all but its header's.
+fn numbers_of(row: Question) -> [u32; 27]
+    ensures { question_of_with result row.request.cookies ≡ row }
 {
-    sorted::not(first(m, Which::Mentions(l)).found)
+    let reference = layouts::reference_numbers(row.reference);
+    let request_origin = layouts::origin_numbers(row.request.origin);
+    let request_referrer = layouts::referrer_numbers(row.request.referrer);
+    let url = layouts::url_numbers(row.url);
+    [
+        row.number.0,
+        reference[0],
+        reference[1],
+        reference[2],
+        reference[3],
+        row.request.number.0,
+        layouts::method_tag(row.request.method),
+        layouts::low(row.request.host.0),
+        layouts::low(row.request.path.0),
+        row.request.parameters.0,
+        request_origin[0],
+        request_origin[1],
+        request_origin[2],
+        request_referrer[0],
+        request_referrer[1],
+        request_referrer[2],
+        request_referrer[3],
+        request_referrer[4],
+        request_referrer[5],
+        request_referrer[6],
+        row.request.body.0,
+        url[0],
+        url[1],
+        url[2],
+        url[3],
+        url[4],
+        url[5],
+    ]
 }

@@ -1,144 +1,169 @@
 // The requests that wait for their answer, by number, in lent memory. Written by tools/tables.py.
 #![tactic(auto)]
 
-mod rows; // a row read from its numbers and written as them
-mod tests; // which rows are meant
+mod heads; // what tests look at
 
-ghost use Rattle.std.specs.Prelude.{◌≡◌};
-ghost use Rattle.sorted.specs.Table.{find, looked};
-ghost use Rattle.memory.specs.Rows.{table, Found as Placed, Kept, Put, Cleared};
-ghost use Rattle.tables.specs.Tables.{pending_requests, key_of, cmp};
+ghost use Rattle.std.specs.Prelude.{◌≡◌, ℕ};
+ghost use Rattle.std.proofs.Common.{refl, rules};
+ghost use Rattle.tables.specs.Tables.{pending_requests, cmp};
 ghost use Rattle.tables.specs.Labels.{clean};
-ghost use Rattle.tables.specs.View.{label_of};
-ghost use Rattle.pending_requests.specs.Which.{passes, key_stands};
-ghost use Rattle.layouts.specs.Tables.{requests_in};
+ghost use Rattle.rows.proofs.Clean.{clean_where_none};
+ghost use Rattle.pending_requests.specs.Heads.{head_of, head_mentions};
 ghost use Rattle.pending_requests.specs.Tidied.{tidied};
+ghost use Rattle.layouts.specs.Rows.{waiting_of, waiting_of_with};
 
-use memory::Memory;
-use rows::{COUNT, FIRST, WIDTH, blank, head_at, write};
-pub use rows::{PENDING_REQUESTS, row, size};
-pub use tests::Which;
-use tests::{stands, test};
+pub use heads::Head;
+use rows::{Labelled, Table};
+use sorted::Order;
 use types::rows::Waiting;
-use types::{Label, RequestNumber};
+use types::{Address, Data, Host, Label, Parameters, Path, Request, RequestNumber};
 
-// A row, if one was found. Where none was, `row` says nothing.
-#[derive(Clone, Copy)]
-pub struct Found {
-    pub found: bool,
-    pub row: Waiting,
-}
+// How many rows there is room for.
+pub const PENDING_REQUESTS: usize = 16;
 
-// The place of the first row that does not stand before a key, whether it has that key, and how many rows count.
-fn seek(m: &Memory, number: RequestNumber) -> sorted::At
-    ensures { Placed requests_in (key_stands number) m.now result.place result.hit result.used }
-{
-    let n = size(m);
-    let mut i: usize = 0;
-    while i < n {
-        let o = stands(number, head_at(m, i));
-        if sorted::after(o) {
-            i += 1;
-        } else {
-            return sorted::At {
-                place: i,
-                hit: sorted::same(o),
-                used: n,
-            };
+pub struct PendingRequests;
+
+impl Table for PendingRequests {
+    type Row = Waiting;
+
+    type Head = Head;
+
+    type Key = RequestNumber;
+
+    const COUNT: usize = 6151;
+
+    const WIDTH: usize = 222;
+
+    const CAPACITY: usize = PENDING_REQUESTS;
+
+    ghost COUNT = { 6151 };
+
+    ghost WIDTH = { 222 };
+
+    ghost CAPACITY = { 16 };
+
+    ghost decode = { waiting_of };
+
+    ghost head_of = { head_of };
+
+    ghost kept = { tidied };
+
+    ghost Sort = { ℕ };
+
+    ghost sort = { λ key. key.0 };
+
+    ghost key_of = { λ h. h.request.0 };
+
+    ghost cmp = { cmp pending_requests };
+
+    fn read(c: &[u32]) -> Waiting {
+        Waiting {
+            reference: layouts::reference_at(c, 0),
+            request: Request {
+                number: RequestNumber(layouts::number(c, 4)),
+                method: layouts::method_of(layouts::number(c, 5)),
+                host: Host(layouts::half(layouts::number(c, 6))),
+                path: Path(layouts::half(layouts::number(c, 7))),
+                parameters: Parameters(layouts::number(c, 8)),
+                cookies: layouts::jars::read(c, 29),
+                origin: layouts::origin_at(c, 9),
+                referrer: layouts::referrer_at(c, 12),
+                body: Data(layouts::number(c, 19)),
+            },
+            url: layouts::url_at(c, 20),
+            seal: layouts::seal_at(c, 26),
+            address: Address(layouts::half(layouts::number(c, 28))),
         }
     }
-    sorted::At {
-        place: i,
-        hit: false,
-        used: n,
-    }
-}
 
-// The first row that passes a test.
-pub fn first(m: &Memory, q: Which) -> Found
-    ensures { looked result.found result.row ≡ find (passes q) (table requests_in m.now) }
-{
-    let n = size(m);
-    let mut i: usize = 0;
-    while i < n {
-        let h = head_at(m, i);
-        if test(h, q) {
-            let found = row(m, i);
-            return Found {
-                found: true,
-                row: found,
-            };
-        }
-        i += 1;
-    }
-    let none = blank();
-    Found {
-        found: false,
-        row: none,
-    }
-}
-
-// Only rows that pass a test stay. None is copied onto itself.
-pub fn keep(m: &mut Memory, q: Which)
-    ensures { Kept requests_in (passes q) m.old m.new }
-{
-    memory::whole(m);
-    let n = size(m);
-    let mut j: usize = 0;
-    let mut i: usize = 0;
-    while i < n {
-        let h = head_at(m, i);
-        if test(h, q) {
-            if j < i {
-                memory::carry(m, FIRST + i * WIDTH, FIRST + j * WIDTH, WIDTH);
-                j += 1;
-                i += 1;
-            } else {
-                j += 1;
-                i += 1;
-            }
-        } else {
-            i += 1;
+    fn glance(c: &[u32]) -> Head {
+        Head {
+            reference: layouts::reference_at(c, 0),
+            request: RequestNumber(layouts::number(c, 4)),
+            seal: layouts::seal_at(c, 26),
         }
     }
-    m[COUNT] = j as u32;
-}
 
-// A row goes in, in the place of the one with its key; whether there was room. Where there was none, nothing changes. What stood behind the count of its header is not written.
-pub fn put(m: &mut Memory, row: Waiting) -> bool
-    ensures { Put requests_in (key_of pending_requests) (cmp pending_requests) (tidied row) m.old m.new result }
-{
-    memory::whole(m);
-    let request = row.request;
-    let number = request.number;
-    let s = seek(m, number);
-    let at = s.place;
-    let n = s.used;
-    if s.hit {
-        write(m, at, row);
-        return true;
+    fn write(c: &mut [u32], row: Waiting) {
+        memory::store(c, 0, &numbers_of(row));
+        layouts::jars::write(c, 29, row.request.cookies);
     }
-    let room = n < PENDING_REQUESTS;
-    if room {
-        memory::shift(m, FIRST + at * WIDTH, FIRST + n * WIDTH, WIDTH);
-        write(m, at, row);
-        m[COUNT] = (n + 1) as u32;
-        return true;
+
+    fn head(row: Waiting) -> Head {
+        Head {
+            reference: row.reference,
+            request: row.request.number,
+            seal: row.seal,
+        }
     }
-    false
+
+    fn key(h: Head) -> RequestNumber {
+        h.request
+    }
+
+    fn order(a: RequestNumber, b: RequestNumber) -> Order {
+        sorted::compare(a.0 as u64, b.0 as u64)
+    }
+
+    ghost fits = { Prim.search rules };
+
+    ghost few = { Prim.search rules };
+
+    ghost same_key = { λ row. refl };
 }
 
-// No row is left.
-pub fn clear(m: &mut Memory)
-    ensures { Cleared requests_in m.old m.new }
-{
-    memory::whole(m);
-    m[COUNT] = 0;
+impl Labelled for PendingRequests {
+    ghost mentions = { head_mentions };
+
+    ghost clean = { clean pending_requests };
+
+    fn mentions(h: Head, l: Label) -> bool {
+        l == Label::OfRequest(h.request)
+            || labels::in_seal(l, h.seal)
+            || labels::in_reference(l, h.reference)
+    }
+
+    ghost cleaned = { clean_where_none pending_requests };
 }
 
-// Whether no row speaks of a label.
-pub fn clean(m: &Memory, l: Label) -> bool
-    ensures { result ≡ clean pending_requests (label_of l) (table requests_in m.now) }
+// A row's numbers, all but its header's.
+fn numbers_of(row: Waiting) -> [u32; 29]
+    ensures { waiting_of_with result row.request.cookies ≡ row }
 {
-    sorted::not(first(m, Which::Mentions(l)).found)
+    let reference = layouts::reference_numbers(row.reference);
+    let request_origin = layouts::origin_numbers(row.request.origin);
+    let request_referrer = layouts::referrer_numbers(row.request.referrer);
+    let url = layouts::url_numbers(row.url);
+    let seal = layouts::seal_numbers(row.seal);
+    [
+        reference[0],
+        reference[1],
+        reference[2],
+        reference[3],
+        row.request.number.0,
+        layouts::method_tag(row.request.method),
+        layouts::low(row.request.host.0),
+        layouts::low(row.request.path.0),
+        row.request.parameters.0,
+        request_origin[0],
+        request_origin[1],
+        request_origin[2],
+        request_referrer[0],
+        request_referrer[1],
+        request_referrer[2],
+        request_referrer[3],
+        request_referrer[4],
+        request_referrer[5],
+        request_referrer[6],
+        row.request.body.0,
+        url[0],
+        url[1],
+        url[2],
+        url[3],
+        url[4],
+        url[5],
+        seal[0],
+        seal[1],
+        layouts::low(row.address.0),
+    ]
 }

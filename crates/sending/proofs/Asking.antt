@@ -37,20 +37,20 @@ tidy-question : (o : Sending) (q n : ℕ) (m : List ℕ) → tidied (question_fr
 tidy-question o q n m = ap (λ (j : Jar). question_of o (url_from o (view m)) j q n) (tidy-jar (chosen_from o (view m)) (few o m))
 
 -- WHAT IS PUT is that question.
-pub sends : (o : Sending) (q n : ℕ) {m m₁ : List ℕ} (row : Question) {done : Bool} → row ≡ question_from o q n (view m) → Put questions_in (key_of pending_dns) (cmp pending_dns) (tidied row) m m₁ done → Carries (sent o q n) (pending_dns ∷ []) [] m m₁ done
+pub sends : (o : Sending) (q n : ℕ) {m m₁ : List ℕ} {row : Question} {done : Bool} → row ≡ question_from o q n (view m) → Put questions_in (key_of pending_dns) (cmp pending_dns) (tidied row) m m₁ done → Carries (sent o q n) (pending_dns ∷ []) [] m m₁ done
 unfolding sent
-sends o q n {m} {m₁} row {done} i k =
+sends o q n {m} {m₁} {row} {done} i k =
     dependent_carries pending_dns (question_from o q n) (subst (λ (r : Question). Put questions_in (key_of pending_dns) (cmp pending_dns) r m m₁ done) (ap tidied i ∙ tidy-question o q n m) k)
 
 -- what the code puts together is that question
-pub question-is : (o : Sending) (q n : ℕ) (w : Tables) (sts : Bool) (url : Url) (header : Jar) (row : Question)
+pub question-is : (o : Sending) (q n : ℕ) (w : Tables) {sts : Bool} {url : Url} {header : Jar} {row : Question}
     → row ≡ question_of o url header q n
     → header ≡ jar (map pair_of (keep (λ (r : HostCookie). same_host r.host o.url.host && goes_over url.protocol r.cookie) (w cookies)))
     → url ≡ cond sts (secured o.url) o.url
     → sts ≡ is_some (at (key_of strict_hosts) (cmp strict_hosts) o.url.host.0 (w strict_hosts))
     → row ≡ question_from o q n w
 unfolding observed
-question-is o q n w sts url header row a b c d =
+question-is o q n w {sts} {url} {header} {row} a b c d =
     let e : url ≡ url_from o w = c ∙ ap (λ (x : Bool). cond x (secured o.url) o.url) d in
     a ∙ ap (λ (h : Jar). question_of o url h q n) b
     ∙ ap (λ (u : Url). question_of o u (jar (map pair_of (keep (λ (r : HostCookie). same_host r.host o.url.host && goes_over u.protocol r.cookie) (w cookies)))) q n) e

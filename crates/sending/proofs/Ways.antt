@@ -13,7 +13,7 @@ use Rattle.shapes.specs.Events.{resolve}
 use Rattle.wim.specs.Program.{Program, made, run}
 use Rattle.wim.specs.Sending.{send}
 use Rattle.browser.specs.View.{view}
-use Rattle.stepping.specs.declared.Performed.{Performed}
+use Rattle.stepping.specs.Gives.{Performed}
 use Rattle.stepping.specs.Holds.{Carries}
 use Rattle.stepping.specs.Performs.{Performs}
 use Rattle.stepping.specs.Wanted.{picked, ready, wants_send}

@@ -12,6 +12,9 @@ ghost use Rattle.sending.specs.Sends.{sent, Sends};
 ghost use Rattle.sending.specs.Cancels.{cancelled};
 
 use memory::Memory;
+use pending_dns::PendingDns;
+use pending_requests::PendingRequests;
+use rows::Table;
 use stepping::Performed;
 use types::cookies::Jar;
 use types::rows::Question;
@@ -25,48 +28,32 @@ fn secured_if(sts: bool, u: Url) -> Url
     ensures { result ≡ cond sts (secured u) u }
 {
     if sts {
-        let f = u.fragment;
-        let h = u.host;
-        let p = u.path;
-        let q = u.parameters;
-        return Url {
+        Url {
             protocol: Protocol::Secure,
-            host: h,
-            path: p,
-            parameters: q,
-            fragment: f,
-        };
+            ..u
+        }
+    } else {
+        u
     }
-    u
 }
 
 fn unfragmented(u: Url) -> Url
     ensures { result ≡ unfragmented u }
 {
-    let s = u.protocol;
-    let h = u.host;
-    let p = u.path;
-    let q = u.parameters;
     Url {
-        protocol: s,
-        host: h,
-        path: p,
-        parameters: q,
         fragment: None,
+        ..u
     }
 }
 
 fn stripped(u: Url) -> Url
     ensures { result ≡ stripped_to_origin u }
 {
-    let s = u.protocol;
-    let h = u.host;
     Url {
-        protocol: s,
-        host: h,
         path: Path(0),
         parameters: Parameters(0),
         fragment: None,
+        ..u
     }
 }
 
@@ -75,15 +62,9 @@ fn referer(p: Policy, r: Referrer) -> Referrer
     ensures { result ≡ referer p r }
 {
     match p {
-        Policy::Unset => match r {
-            None => None,
-            Some(u) => Some(unfragmented(u)),
-        },
+        Policy::Unset => r.map(|u| unfragmented(u)),
         Policy::NoReferrer => None,
-        Policy::OriginOnly => match r {
-            None => None,
-            Some(u) => Some(stripped(u)),
-        },
+        Policy::OriginOnly => r.map(|u| stripped(u)),
     }
 }
 
@@ -91,38 +72,26 @@ fn referer(p: Policy, r: Referrer) -> Referrer
 fn request_of(o: Sending, jar: Jar, q: RequestNumber) -> Request
     ensures { result ≡ request_of o jar q.0 }
 {
-    let u = o.url;
-    let h = u.host;
-    let p = u.path;
-    let m = o.method;
-    let ps = o.parameters;
-    let origin = o.origin;
-    let policy = o.policy;
-    let known = o.referrer;
-    let body = o.body;
-    let from = referer(policy, known);
     Request {
         number: q,
-        method: m,
-        host: h,
-        path: p,
-        parameters: ps,
+        method: o.method,
+        host: o.url.host,
+        path: o.url.path,
+        parameters: o.parameters,
         cookies: jar,
-        origin: origin,
-        referrer: from,
-        body: body,
+        origin: o.origin,
+        referrer: referer(o.policy, o.referrer),
+        body: o.body,
     }
 }
 
 fn question_of(o: Sending, u: Url, jar: Jar, q: RequestNumber, n: DnsNumber) -> Question
     ensures { result ≡ question_of o u jar q.0 n.0 }
 {
-    let p = o.reference;
-    let asked = request_of(o, jar, q);
     Question {
         number: n,
-        reference: p,
-        request: asked,
+        reference: o.reference,
+        request: request_of(o, jar, q),
         url: u,
     }
 }
@@ -131,14 +100,10 @@ fn question_of(o: Sending, u: Url, jar: Jar, q: RequestNumber, n: DnsNumber) -> 
 pub fn send(m: &mut Memory, o: Sending, q: RequestNumber, n: DnsNumber) -> bool
     ensures { Carries (sent o q.0 n.0) (pending_dns ∷ []) [] m.old m.new result }
 {
-    let url = o.url;
-    let h = url.host;
-    let strict = sts::strict(m, h);
-    let u = secured_if(strict, url);
-    let over = u.protocol;
-    let jar = cookies::sent_to(m, h, over);
-    let row = question_of(o, u, jar, q, n);
-    pending_dns::put(m, row)
+    let strict = sts::strict(m, o.url.host);
+    let url = secured_if(strict, o.url);
+    let jar = cookies::sent_to(m, o.url.host, url.protocol);
+    PendingDns::put(m, question_of(o, url, jar, q, n))
 }
 
 // HTTP_SEND ends a step; `room` says whether there was room for what the step put before.
@@ -153,11 +118,8 @@ pub fn http_send(m: &mut Memory, room: bool, o: Sending, f: Fresh) -> Performed
 pub fn cancel(m: &mut Memory, what: Cancelled)
     ensures { Carries (cancelled what) [] (pending_requests ∷ pending_dns ∷ []) m.old m.new true }
 {
-    match what {
-        Cancelled::Bare(_) => {}
-        Cancelled::Labelled(s) => {
-            pending_requests::keep(m, pending_requests::Which::NotFor(s));
-            pending_dns::keep(m, pending_dns::Which::NotFor(s));
-        }
+    if let Cancelled::Labelled(s) = what {
+        PendingRequests::keep(m, |h| h.reference != s);
+        PendingDns::keep(m, |h| h.reference != s);
     }
 }

@@ -8,73 +8,35 @@ use types::{Method, Origin, Url};
 pub fn is_form_method(m: Method) -> bool
     ensures { result ≡ is_form_method m }
 {
-    match m {
-        Method::Get => true,
-        Method::Head => false,
-        Method::Post => true,
-        Method::Put => false,
-        Method::Delete => false,
-        Method::Connect => false,
-        Method::Options => false,
-        Method::Trace => false,
-    }
+    matches!(m, Method::Get | Method::Post)
 }
 
 // A7:41
 pub fn is_get(m: Method) -> bool
     ensures { result ≡ is_get m }
 {
-    match m {
-        Method::Get => true,
-        Method::Head => false,
-        Method::Post => false,
-        Method::Put => false,
-        Method::Delete => false,
-        Method::Connect => false,
-        Method::Options => false,
-        Method::Trace => false,
-    }
+    matches!(m, Method::Get)
 }
 
 // A7:61
 pub fn is_forbidden(m: Method) -> bool
     ensures { result ≡ is_forbidden m }
 {
-    match m {
-        Method::Get => false,
-        Method::Head => false,
-        Method::Post => false,
-        Method::Put => false,
-        Method::Delete => false,
-        Method::Connect => true,
-        Method::Options => false,
-        Method::Trace => true,
-    }
+    matches!(m, Method::Connect | Method::Trace)
 }
 
 // A7:65, A8:21
 pub fn is_get_or_head(m: Method) -> bool
     ensures { result ≡ is_get_or_head m }
 {
-    match m {
-        Method::Get => true,
-        Method::Head => true,
-        Method::Post => false,
-        Method::Put => false,
-        Method::Delete => false,
-        Method::Connect => false,
-        Method::Options => false,
-        Method::Trace => false,
-    }
+    matches!(m, Method::Get | Method::Head)
 }
 
 pub fn url_origin(u: Url) -> Origin
     ensures { result ≡ url_origin u }
 {
-    let h = u.host;
-    let p = u.protocol;
     Origin {
-        host: h,
-        protocol: p,
+        host: u.host,
+        protocol: u.protocol,
     }
 }

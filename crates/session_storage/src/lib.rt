@@ -1,144 +1,120 @@
 // What scripts keep in session storage, by origin and top-level window, in lent memory. Written by tools/tables.py.
 #![tactic(auto)]
 
-mod rows; // a row read from its numbers and written as them
-mod tests; // which rows are meant
+ghost use Rattle.std.specs.Prelude.{◌≡◌, Bool, ℕ};
+ghost use Rattle.std.proofs.Common.{refl, rules};
+ghost use Rattle.tables.specs.Tables.{session_storage, key_of, cmp, is_secure};
+ghost use Rattle.tables.specs.Labels.{mentions, clean};
+ghost use Rattle.rows.proofs.Clean.{clean_where_none};
+ghost use Rattle.layouts.specs.Rows.{session_value_of};
 
-ghost use Rattle.std.specs.Prelude.{◌≡◌};
-ghost use Rattle.sorted.specs.Table.{find, looked};
-ghost use Rattle.memory.specs.Rows.{table, Found as Placed, Kept, Put, Cleared};
-ghost use Rattle.tables.specs.Tables.{session_storage, key_of, cmp};
-ghost use Rattle.tables.specs.Labels.{clean};
-ghost use Rattle.tables.specs.View.{label_of};
-ghost use Rattle.session_storage.specs.Which.{passes, key_stands};
-ghost use Rattle.layouts.specs.Tables.{session_in};
-
-use memory::Memory;
-use rows::{COUNT, FIRST, WIDTH, blank, write};
-pub use rows::{SESSION_STORAGE, row, size};
-pub use tests::Which;
-use tests::{stands, test};
+use rows::{Labelled, Table};
+use sorted::Order;
+use types::items::Stored;
 use types::rows::SessionValue;
-use types::{Host, Label, Protocol, WindowNumber};
+use types::{Label, Origin, WindowNumber};
 
-// A row, if one was found. Where none was, `row` says nothing.
-#[derive(Clone, Copy)]
-pub struct Found {
-    pub found: bool,
-    pub row: SessionValue,
-}
+// How many rows there is room for.
+pub const SESSION_STORAGE: usize = 32;
 
-// The place of the first row that does not stand before a key, whether it has that key, and how many rows count.
-fn seek(m: &Memory, host: Host, protocol: Protocol, top: WindowNumber) -> sorted::At
-    ensures { Placed session_in (key_stands host protocol top) m.now result.place result.hit result.used }
-{
-    let n = size(m);
-    let mut i: usize = 0;
-    while i < n {
-        let o = stands(host, protocol, top, row(m, i));
-        if sorted::after(o) {
-            i += 1;
-        } else {
-            return sorted::At {
-                place: i,
-                hit: sorted::same(o),
-                used: n,
-            };
+pub struct SessionStorage;
+
+impl Table for SessionStorage {
+    type Row = SessionValue;
+
+    type Head = SessionValue;
+
+    type Key = (Origin, WindowNumber);
+
+    const COUNT: usize = 1988;
+
+    const WIDTH: usize = 4;
+
+    const CAPACITY: usize = SESSION_STORAGE;
+
+    ghost COUNT = { 1988 };
+
+    ghost WIDTH = { 4 };
+
+    ghost CAPACITY = { 32 };
+
+    ghost decode = { session_value_of };
+
+    ghost head_of = { λ row. row };
+
+    ghost kept = { λ row. row };
+
+    ghost Sort = { ℕ × (Bool × ℕ) };
+
+    ghost sort = { λ key. (key.0.host.0, (is_secure key.0.protocol, key.1.0)) };
+
+    ghost key_of = { key_of session_storage };
+
+    ghost cmp = { cmp session_storage };
+
+    fn read(c: &[u32]) -> SessionValue {
+        SessionValue {
+            origin: layouts::site_at(c, 0),
+            top: WindowNumber(layouts::number(c, 2)),
+            value: Stored(layouts::number(c, 3)),
         }
     }
-    sorted::At {
-        place: i,
-        hit: false,
-        used: n,
-    }
-}
 
-// The first row that passes a test.
-pub fn first(m: &Memory, q: Which) -> Found
-    ensures { looked result.found result.row ≡ find (passes q) (table session_in m.now) }
-{
-    let n = size(m);
-    let mut i: usize = 0;
-    while i < n {
-        let found = row(m, i);
-        if test(found, q) {
-            return Found {
-                found: true,
-                row: found,
-            };
-        }
-        i += 1;
+    fn glance(c: &[u32]) -> SessionValue {
+        Self::read(c)
     }
-    let none = blank();
-    Found {
-        found: false,
-        row: none,
-    }
-}
 
-// Only rows that pass a test stay. None is copied onto itself.
-pub fn keep(m: &mut Memory, q: Which)
-    ensures { Kept session_in (passes q) m.old m.new }
-{
-    memory::whole(m);
-    let n = size(m);
-    let mut j: usize = 0;
-    let mut i: usize = 0;
-    while i < n {
-        let seen = row(m, i);
-        if test(seen, q) {
-            if j < i {
-                memory::carry(m, FIRST + i * WIDTH, FIRST + j * WIDTH, WIDTH);
-                j += 1;
-                i += 1;
-            } else {
-                j += 1;
-                i += 1;
-            }
-        } else {
-            i += 1;
+    fn write(c: &mut [u32], row: SessionValue) {
+        let numbers = numbers_of(row);
+        if c.len() == numbers.len() {
+            c.copy_from_slice(&numbers);
         }
     }
-    m[COUNT] = j as u32;
-}
 
-// A row goes in, in the place of the one with its key; whether there was room. Where there was none, nothing changes.
-pub fn put(m: &mut Memory, row: SessionValue) -> bool
-    ensures { Put session_in (key_of session_storage) (cmp session_storage) row m.old m.new result }
-{
-    memory::whole(m);
-    let origin = row.origin;
-    let host = origin.host;
-    let protocol = origin.protocol;
-    let top = row.top;
-    let s = seek(m, host, protocol, top);
-    let at = s.place;
-    let n = s.used;
-    if s.hit {
-        write(m, at, row);
-        return true;
+    fn head(row: SessionValue) -> SessionValue {
+        row
     }
-    let room = n < SESSION_STORAGE;
-    if room {
-        memory::shift(m, FIRST + at * WIDTH, FIRST + n * WIDTH, WIDTH);
-        write(m, at, row);
-        m[COUNT] = (n + 1) as u32;
-        return true;
+
+    fn key(h: SessionValue) -> (Origin, WindowNumber) {
+        (h.origin, h.top)
     }
-    false
+
+    fn order(a: (Origin, WindowNumber), b: (Origin, WindowNumber)) -> Order {
+        sorted::then(
+            sorted::compare(a.0.host.0 as u64, b.0.host.0 as u64),
+            sorted::then(
+                sorted::compare_bools(
+                    labels::is_secure(a.0.protocol),
+                    labels::is_secure(b.0.protocol),
+                ),
+                sorted::compare(a.1.0 as u64, b.1.0 as u64),
+            ),
+        )
+    }
+
+    ghost fits = { Prim.search rules };
+
+    ghost few = { Prim.search rules };
+
+    ghost same_key = { λ row. refl };
 }
 
-// No row is left.
-pub fn clear(m: &mut Memory)
-    ensures { Cleared session_in m.old m.new }
-{
-    memory::whole(m);
-    m[COUNT] = 0;
+impl Labelled for SessionStorage {
+    ghost mentions = { mentions session_storage };
+
+    ghost clean = { clean session_storage };
+
+    fn mentions(h: SessionValue, l: Label) -> bool {
+        l == Label::OfWindow(h.top)
+    }
+
+    ghost cleaned = { clean_where_none session_storage };
 }
 
-// Whether no row speaks of a label.
-pub fn clean(m: &Memory, l: Label) -> bool
-    ensures { result ≡ clean session_storage (label_of l) (table session_in m.now) }
+// A row's numbers.
+fn numbers_of(row: SessionValue) -> [u32; 4]
+    ensures { session_value_of result ≡ row }
 {
-    sorted::not(first(m, Which::Mentions(l)).found)
+    let origin = layouts::site_numbers(row.origin);
+    [origin[0], origin[1], row.top.0, row.value.0]
 }

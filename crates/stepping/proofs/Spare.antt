@@ -1,21 +1,23 @@
 -- The code asks of each number that is given whether it stands anywhere, table by table; cookies, local storage and STS hosts speak of hosts alone.
-use mathlib.Core.Path.{◌≡◌, refl, ap}
+use mathlib.Core.Path.{◌≡◌, refl, sym, ap, ◌∙◌}
 use mathlib.Core.Bool.{Bool, true, false, cond, ◌&&◌}
 use mathlib.Core.List.{List, [], ◌∷◌}
 use lib.Dec.{eqb}
+use Rattle.std.proofs.Math.Bool.{and-true}
+use Rattle.types.specs.declared.Fresh.{Fresh}
 use Rattle.types.specs.declared.Label.{Label as Mark}
 use Rattle.types.specs.declared.rows.HostCookie.{HostCookie}
 use Rattle.types.specs.declared.rows.LocalValue.{LocalValue}
 use Rattle.types.specs.declared.rows.StrictHost.{StrictHost}
-use Rattle.tables.specs.Tables.{Tables, windows, documents, cookies, local_storage, session_storage, inputs, pending_dns, pending_requests, sts}
-use Rattle.tables.specs.Labels.{host, Label, clean, is_fresh}
-use Rattle.wim.specs.Step.{given, all_fresh}
+use Rattle.tables.specs.Tables.{Table, Tables, windows, documents, cookies, local_storage, session_storage, inputs, pending_dns, pending_requests, sts}
+use Rattle.tables.specs.Labels.{window, request, dns, key, document, Label, clean, is_fresh}
+use Rattle.wim.specs.Step.{numbers, given, fresh_labels, all_fresh}
 use Rattle.tables.specs.View.{label_of}
 use Rattle.labels.proofs.Laws.{no-host}
-use Rattle.stepping.specs.Wanted.{all_spare}
+use Rattle.stepping.specs.Wanted.{spare, all_spare}
 use Rattle.stepping.proofs.Exact.{five}
 
-pub all-spare : (b : Tables) (ls : List Label) → all_fresh b (given ls) ≡ all_spare b ls
+all-spare : (b : Tables) (ls : List Label) → all_fresh b (given ls) ≡ all_spare b ls
 unfolding all_fresh
 all-spare b [] = refl
 all-spare b (l ∷ ls) = go (eqb l.1 0) (all-spare b ls)
@@ -23,6 +25,12 @@ all-spare b (l ∷ ls) = go (eqb l.1 0) (all-spare b ls)
     go : (z : Bool) → all_fresh b (given ls) ≡ all_spare b ls → all_fresh b (cond z (given ls) (l ∷ given ls)) ≡ (cond z true (is_fresh b l) && all_spare b ls)
     go true ih = ih
     go false ih = ap (is_fresh b l &&◌) ih
+
+-- of the five numbers
+pub five_spare : (b : Tables) (f : Fresh) {x : Bool}
+    → x ≡ (spare b (window, f.window.0) && (spare b (request, f.request.0) && (spare b (dns, f.dns.0) && (spare b (key, f.key.0) && spare b (document, f.document.0)))))
+    → x ≡ all_fresh b (fresh_labels f)
+five_spare b f e = e ∙ five (spare b (window, f.window.0)) (spare b (request, f.request.0)) (spare b (dns, f.dns.0)) (spare b (key, f.key.0)) (spare b (document, f.document.0)) ∙ sym (all-spare b (numbers f))
 
 clean-cookies : (l : Mark) (rs : List HostCookie) → clean cookies (label_of l) rs ≡ true
 unfolding clean
@@ -39,8 +47,22 @@ unfolding clean
 clean-sts l [] = refl
 clean-sts l (r ∷ rs) = rw (no-host l r.host.0) (clean-sts l rs)
 
-pub fresh-tables : (l : Mark) (b : Tables)
-    → (clean windows (label_of l) (b windows) && (clean documents (label_of l) (b documents) && (clean session_storage (label_of l) (b session_storage) && (clean inputs (label_of l) (b inputs) && (clean pending_dns (label_of l) (b pending_dns) && clean pending_requests (label_of l) (b pending_requests))))))
-    ≡ is_fresh b (label_of l)
+six : (a b c d e f : Bool) → (a && b && c && d && e && f) ≡ (a && (b && (c && (d && (e && (f && true))))))
+six true true true true true f = sym (and-true f)
+six true true true true false f = refl
+six true true true false e f = refl
+six true true false d e f = refl
+six true false c d e f = refl
+six false b c d e f = refl
+
+-- no row of this table speaks of the label
+abbrev pub silent : (l : Mark) (b : Tables) → Table → Bool
+silent l b t = clean t (label_of l) (b t)
+
+pub fresh-tables : (l : Mark) (b : Tables) {x : Bool}
+    → x ≡ (silent l b windows && silent l b documents && silent l b session_storage && silent l b inputs && silent l b pending_dns && silent l b pending_requests)
+    → x ≡ is_fresh b (label_of l)
 unfolding is_fresh
-fresh-tables l b = rw (clean-cookies l (b cookies), clean-local l (b local_storage), clean-sts l (b sts)) (ap (clean windows (label_of l) (b windows) &&◌) (five (clean documents (label_of l) (b documents)) (clean session_storage (label_of l) (b session_storage)) (clean inputs (label_of l) (b inputs)) (clean pending_dns (label_of l) (b pending_dns)) (clean pending_requests (label_of l) (b pending_requests))))
+fresh-tables l b e =
+    rw (clean-cookies l (b cookies), clean-local l (b local_storage), clean-sts l (b sts))
+    (e ∙ six (silent l b windows) (silent l b documents) (silent l b session_storage) (silent l b inputs) (silent l b pending_dns) (silent l b pending_requests))

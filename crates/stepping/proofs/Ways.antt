@@ -2,71 +2,61 @@
 use mathlib.Core.Path.{◌≡◌, refl, sym, ◌∙◌, ap, subst}
 use mathlib.Core.Bool.{Bool, true, false, cond, not, ◌&&◌, false≢true}
 use mathlib.Core.List.{List, [], ◌∷◌}
-use Rattle.std.specs.Prelude.{None as none}
+use Rattle.std.specs.Prelude.{Option, None, Err}
 use Prim.Native.Nat.{ℕ}
 use lib.Dec.{eqb}
 use Rattle.types.specs.declared.Fresh.{Fresh}
 use Rattle.types.specs.declared.Wants.{Wants}
-use Rattle.types.specs.declared.Request.{Request}
-use Rattle.types.specs.declared.Sent.{Sent}
-use Rattle.types.specs.declared.Sent.TheVariants.{Silence}
 use Rattle.types.specs.declared.refusals.Refusal.{Refusal}
 use Rattle.types.specs.declared.refusals.Refusal.TheVariants.{NotFresh, Full}
 use Rattle.tables.specs.Tables.{Table, Tables}
 use Rattle.tables.specs.Labels.{Label}
-use Rattle.tables.specs.Rows.{blank_request}
-use Rattle.shapes.specs.Events.{message_of}
+use Rattle.shapes.specs.Events.{Message}
 use Rattle.wim.specs.Program.{Query, Observed, observed, Program, ask, Outcome, refused, made, run}
 use Rattle.wim.specs.Step.{numbers, given, fresh_labels, all_fresh, fits, fitted, admit}
 use Rattle.stepping.specs.Wanted.{kinds, picked, exactly, ready, wants_nothing, Unwanted}
 use Rattle.stepping.specs.Brings.{Brings}
 use Rattle.stepping.proofs.Exact.{unready, readied, five}
 use Rattle.browser.specs.View.{view}
-use Rattle.stepping.specs.declared.Performed.{Performed}
 use Rattle.stepping.specs.Holds.{Holds, Carries}
-use Rattle.stepping.specs.Gives.{Answers, Refuses, Concludes, Silent}
+use Rattle.stepping.specs.Gives.{Performed, Answers, concluded}
 use Rattle.stepping.specs.Performs.{Performs}
 use Rattle.stepping.proofs.Carry.{held, room_fits}
 
 -- what is refused, with nothing changed
-declines : (m : List ℕ) {why : Refusal} {r : Performed} → Refuses why r → Answers m (refused why) m r
-declines m a = record { is = (a.verdict, a.silence, λ _. refl) }
+declines : (m : List ℕ) {why : Refusal} {r : Performed} → r ≡ Err why → Answers m (refused why) m r
+declines m e = record { is = (e, λ _. refl) }
 
 -- 6, or made
-concludes : {ts : List Table} {w : Tables} {m n : List ℕ} {room : Bool} {sent : Sent} {q : Request} {r : Performed} → Holds ts w n room → Concludes room sent q r → Answers m (fitted (made w (message_of sent q))) n r
-concludes {ts} {w} {m} {n} {room} {sent} {q} {r} h c = go room refl
+concludes : {ts : List Table} {w : Tables} {m n : List ℕ} {room : Bool} (x : Option Message) {r : Performed} → Holds ts w n room → r ≡ concluded room x → Answers m (fitted (made w x)) n r
+concludes {ts} {w} {m} {n} {room} x {r} h e = go room refl
   where
-    go : (x : Bool) → room ≡ x → Answers m (cond (fits w) (made w (message_of sent q)) (refused Full)) n r
-    go true p = let z : fits w ≡ true = room_fits h ∙ p in rw z record { is = ((c.fits p).0, (c.fits p).1, h.rows p) }
-    go false p = let z : fits w ≡ false = room_fits h ∙ p in rw z record { is = ((c.full p).verdict, (c.full p).silence, λ e. absurd (false≢true e)) }
+    go : (y : Bool) → room ≡ y → Answers m (cond (fits w) (made w x) (refused Full)) n r
+    go true p = let z : fits w ≡ true = room_fits h ∙ p in rw z record { is = (e ∙ ap (λ (b : Bool). concluded b x) p, h.rows p) }
+    go false p = let z : fits w ≡ false = room_fits h ∙ p in rw z record { is = (e ∙ ap (λ (b : Bool). concluded b x) p, λ k. absurd (false≢true k)) }
 
 module _ (p : Program) (f : Fresh) {m : List ℕ} {r : Performed} where
-  pub refuses : {why : Refusal} → run p (view m) (fresh_labels f) ≡ refused why → Refuses why r → Performs p f m m r
+  pub refuses : {why : Refusal} → run p (view m) (fresh_labels f) ≡ refused why → r ≡ Err why → Performs p f m m r
   refuses e a = record { answers = subst (λ (o : Outcome). Answers m (admit (fresh_labels f) (view m) o) m r) (sym e) (declines m a) }
 
-  pub stales : (w : Wants) → Brings (kinds (picked w f)) p → ready w f (view m) ≡ false → Refuses NotFresh r → Performs p f m m r
+  pub stales : (w : Wants) → Brings (kinds (picked w f)) p → ready w f (view m) ≡ false → r ≡ Err NotFresh → Performs p f m m r
   stales w k e a = record { answers = subst (λ (o : Outcome). Answers m o m r) (sym (unready p w f (view m) k e)) (declines m a) }
 
-  pub ends : {n : List ℕ} {room : Bool} {sent : Sent} {q : Request} {g : Tables → Tables} {puts drops : List Table} (w : Wants) → ready w f (view m) ≡ true
-      → run p (view m) (picked w f) ≡ made (g (view m)) (message_of sent q) → Carries g puts drops m n room → Concludes room sent q r → Performs p f m n r
-  ends {n} w e s c a = record { answers = subst (λ (o : Outcome). Answers m o n r) (sym (readied p w f (view m) e ∙ ap fitted s)) (concludes (held c) a) }
-
-  -- that sends nothing
-  pub ends_silent : {n : List ℕ} {room : Bool} {g : Tables → Tables} {puts drops : List Table} (w : Wants) → ready w f (view m) ≡ true
-      → run p (view m) (picked w f) ≡ made (g (view m)) none → Carries g puts drops m n room → Silent room r → Performs p f m n r
-  ends_silent {n} w e s c a = ends {sent = Silence} {q = blank_request} w e s c (record { full = a.full; fits = a.fits })
+  pub ends : {n : List ℕ} {room : Bool} {x : Option Message} {g : Tables → Tables} {puts drops : List Table} (w : Wants) → ready w f (view m) ≡ true
+      → run p (view m) (picked w f) ≡ made (g (view m)) x → Carries g puts drops m n room → r ≡ concluded room x → Performs p f m n r
+  ends {n} {x = x} w e s c a = record { answers = subst (λ (o : Outcome). Answers m o n r) (sym (readied p w f (view m) e ∙ ap fitted s)) (concludes x (held c) a) }
 
 -- WHERE NO NUMBER IS BROUGHT the code asks whether none is given: 5, or what is changed, in silence.
 pub unwanted : {f : Fresh} {x y : Bool} → Unwanted f x → (b : Tables) → x ≡ y → ready wants_nothing f b ≡ y
 unwanted u b e = sym (u.is b) ∙ e
 
 module _ (p : Program) (f : Fresh) {m : List ℕ} {r : Performed} {x : Bool} (u : Unwanted f x) where
-  pub unfresh : Brings [] p → x ≡ false → Refuses NotFresh r → Performs p f m m r
+  pub unfresh : Brings [] p → x ≡ false → r ≡ Err NotFresh → Performs p f m m r
   unfresh k e a = stales p f wants_nothing k (unwanted u (view m) e) a
 
   pub silently : {n : List ℕ} {room : Bool} {g : Tables → Tables} {puts drops : List Table}
-      → run p (view m) [] ≡ made (g (view m)) none → x ≡ true → Carries g puts drops m n room → Silent room r → Performs p f m n r
-  silently s e c a = ends_silent p f wants_nothing (unwanted u (view m) e) s c a
+      → run p (view m) [] ≡ made (g (view m)) None → x ≡ true → Carries g puts drops m n room → r ≡ concluded room None → Performs p f m n r
+  silently s e c a = ends p f wants_nothing (unwanted u (view m) e) s c a
 
 -- a program of a value that is told
 pub performs-at : {A : Type 0} (p : A → Program) {x y : A} {f : Fresh} {m n : List ℕ} {r : Performed} → x ≡ y → Performs (p y) f m n r → Performs (p x) f m n r
@@ -108,6 +98,6 @@ none-fresh b (l ∷ ls) = go (eqb l.1 0) (none-fresh b ls)
     go true e = e
     go false e = refl
 
-pub wants_none : (f : Fresh) (b : Tables) → (eqb f.window.0 0 && (eqb f.request.0 0 && (eqb f.dns.0 0 && (eqb f.key.0 0 && eqb f.document.0 0)))) ≡ ready wants_nothing f b
+pub wants_none : (f : Fresh) (b : Tables) {x : Bool} → x ≡ (eqb f.window.0 0 && (eqb f.request.0 0 && (eqb f.dns.0 0 && (eqb f.key.0 0 && eqb f.document.0 0)))) → x ≡ ready wants_nothing f b
 unfolding none_of
-wants_none f b = let e = none-exactly (numbers f) in let g = none-fresh b (numbers f) in five (eqb f.window.0 0) (eqb f.request.0 0) (eqb f.dns.0 0) (eqb f.key.0 0) (eqb f.document.0 0) ∙ g ∙ ap (◌&& all_fresh b (fresh_labels f)) e
+wants_none f b e = e ∙ five (eqb f.window.0 0) (eqb f.request.0 0) (eqb f.dns.0 0) (eqb f.key.0 0) (eqb f.document.0 0) ∙ none-fresh b (numbers f) ∙ ap (◌&& all_fresh b (fresh_labels f)) (none-exactly (numbers f))

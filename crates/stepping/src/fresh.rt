@@ -6,20 +6,26 @@ ghost use Rattle.wim.specs.Step.{numbers, fresh_labels, all_fresh};
 ghost use Rattle.browser.specs.View.{view};
 ghost use Rattle.stepping.specs.Wanted.{flags, agrees, exactly, ready, spare};
 
+use documents::Documents;
+use inputs::Inputs;
 use memory::Memory;
+use pending_dns::PendingDns;
+use pending_requests::PendingRequests;
+use rows::Labelled;
+use session_storage::SessionStorage;
 use types::{Fresh, Label, Wants};
+use windows::Windows;
 
 // No row of any table speaks of the label. Cookies, local storage and STS hosts speak of hosts alone.
 fn absent(m: &Memory, l: Label) -> bool
     ensures { result ≡ is_fresh (view m.now) (label_of l) }
 {
-    let waits = sorted::both(pending_dns::clean(m, l), pending_requests::clean(m, l));
-    let told = sorted::both(inputs::clean(m, l), waits);
-    let stored = sorted::both(session_storage::clean(m, l), told);
-    sorted::both(
-        windows::clean(m, l),
-        sorted::both(documents::clean(m, l), stored),
-    )
+    Windows::clean(m, l)
+        && Documents::clean(m, l)
+        && SessionStorage::clean(m, l)
+        && Inputs::clean(m, l)
+        && PendingDns::clean(m, l)
+        && PendingRequests::clean(m, l)
 }
 
 fn number(l: Label) -> u32
@@ -38,54 +44,37 @@ fn number(l: Label) -> u32
 fn unused(m: &Memory, l: Label) -> bool
     ensures { result ≡ spare (view m.now) (label_of l) }
 {
-    if number(l) == 0 {
-        return true;
-    }
-    absent(m, l)
+    number(l) == 0 || absent(m, l)
 }
 
 fn all_unused(m: &Memory, f: Fresh) -> bool
     ensures { result ≡ all_fresh (view m.now) (fresh_labels f) }
 {
-    let w = f.window;
-    let q = f.request;
-    let n = f.dns;
-    let k = f.key;
-    let d = f.document;
-    let last = unused(m, Label::OfDocument(d));
-    let keyed = sorted::both(unused(m, Label::OfKey(k)), last);
-    let asked = sorted::both(unused(m, Label::OfDns(n)), keyed);
-    let sent = sorted::both(unused(m, Label::OfRequest(q)), asked);
-    sorted::both(unused(m, Label::OfWindow(w)), sent)
+    unused(m, Label::OfWindow(f.window))
+        && unused(m, Label::OfRequest(f.request))
+        && unused(m, Label::OfDns(f.dns))
+        && unused(m, Label::OfKey(f.key))
+        && unused(m, Label::OfDocument(f.document))
 }
 
 fn agrees(x: bool, n: u32) -> bool
     ensures { result ≡ agrees x n }
 {
-    if n == 0 {
-        return sorted::not(x);
-    }
-    x
+    x == (n != 0)
 }
 
 fn exactly(f: Fresh, w: Wants) -> bool
     ensures { result ≡ exactly (flags w) (numbers f) }
 {
-    let v = f.window;
-    let q = f.request;
-    let n = f.dns;
-    let k = f.key;
-    let d = f.document;
-    let keyed = sorted::both(agrees(w.key, k.0), agrees(w.document, d.0));
-    let asked = sorted::both(agrees(w.dns, n.0), keyed);
-    let sent = sorted::both(agrees(w.request, q.0), asked);
-    sorted::both(agrees(w.window, v.0), sent)
+    agrees(w.window, f.window.0)
+        && agrees(w.request, f.request.0)
+        && agrees(w.dns, f.dns.0)
+        && agrees(w.key, f.key.0)
+        && agrees(w.document, f.document.0)
 }
 
 pub fn ready(m: &Memory, f: Fresh, w: Wants) -> bool
     ensures { result ≡ ready w f (view m.now) }
 {
-    let e = exactly(f, w);
-    let u = all_unused(m, f);
-    sorted::both(e, u)
+    exactly(f, w) && all_unused(m, f)
 }

@@ -1,3 +1,3 @@
 -- The laws of cookie lists.
 pub mod Names
-pub mod Lasting
+pub mod Sifting

@@ -1,3 +1,2 @@
 -- The laws of what a script's step stands on and stores.
-pub mod Getting
 pub mod Stores

@@ -18,7 +18,12 @@ ghost use Rattle.layouts.specs.Tables.{host_cookies_in, inputs_in};
 ghost use Rattle.stepping.specs.Holds.{Carries};
 ghost use Rattle.storing.specs.Next.{next_input};
 
+use cookies::Cookies;
+use inputs::Inputs;
+use local_storage::LocalStorage;
 use memory::Memory;
+use rows::Table;
+use session_storage::SessionStorage;
 use types::cookies::{Cookie, SetCookies};
 use types::items::Stored;
 use types::rows::{Input, LocalValue, News, SessionValue};
@@ -28,38 +33,16 @@ use types::{DocumentNumber, Host, Origin, Protocol, WindowNumber};
 fn is_guarded(m: &Memory, h: Host, c: Cookie) -> bool
     ensures { result ≡ guarded (keep (λ (o : HostCookie). same_host o.host h) (table host_cookies_in m.now)) c }
 {
-    let name = c.name;
-    cookies::first(m, cookies::Which::Guards(h, name)).found
-}
-
-fn unguarded(m: &Memory, h: Host, few: SetCookies) -> SetCookies
-    ensures { cookies_in result ≡ keep (λ (c : Cookie). not (guarded (keep (λ (o : HostCookie). same_host o.host h) (table host_cookies_in m.now)) c)) (cookies_in few) }
-{
-    let n = sorted::used(few.count, setting::FEW);
-    let mut u = few;
-    let mut j: usize = 0;
-    let mut i: usize = 0;
-    while i < n {
-        let c = u.rows[i];
-        if is_guarded(m, h, c) {
-            i += 1;
-        } else {
-            u.rows[j] = c;
-            j += 1;
-            i += 1;
-        }
-    }
-    u.count = j;
-    u
+    Cookies::first(m, |old| old.host == h && old.cookie.name == c.name && old.cookie.httponly)
+        .is_some()
 }
 
 // Definition 36: which of a script's cookies are stored, where h is the host of the script's document.
 pub fn merge(m: &Memory, h: Host, few: SetCookies, p: Protocol) -> SetCookies
     ensures { cookies_in result ≡ cookie_merge (keep (λ (o : HostCookie). same_host o.host h) (table host_cookies_in m.now)) (cookies_in few) p }
 {
-    let new = setting::permitted(few, true, p);
-    let last = setting::latest(new);
-    unguarded(m, h, last)
+    let last = setting::latest(setting::permitted(few, true, p));
+    setting::kept(last, |c, _| !is_guarded(m, h, c))
 }
 
 // Definition 37: which of an answer's cookies are stored.
@@ -80,45 +63,47 @@ pub fn put_cookies(m: &mut Memory, h: Host, few: SetCookies) -> bool
 pub fn store_local(m: &mut Memory, o: Origin, v: Stored) -> bool
     ensures { Carries (apply local_storage (store_local o v)) (local_storage ∷ []) (local_storage ∷ []) m.old m.new result }
 {
-    let h = o.host;
-    let p = o.protocol;
     if v.0 == 0 {
-        local_storage::keep(m, local_storage::Which::KeyIsNot(h, p));
-        return true;
+        LocalStorage::remove(m, o);
+        true
+    } else {
+        LocalStorage::put(
+            m,
+            LocalValue {
+                origin: o,
+                value: v,
+            },
+        )
     }
-    let row = LocalValue {
-        origin: o,
-        value: v,
-    };
-    local_storage::put(m, row)
 }
 
 // The same of session storage, by the top-level window (000 A7:13).
 pub fn store_session(m: &mut Memory, o: Origin, top: WindowNumber, v: Stored) -> bool
     ensures { Carries (apply session_storage (store_session o top v)) (session_storage ∷ []) (session_storage ∷ []) m.old m.new result }
 {
-    let h = o.host;
-    let p = o.protocol;
     if v.0 == 0 {
-        session_storage::keep(m, session_storage::Which::KeyIsNot(h, p, top));
-        return true;
+        SessionStorage::remove(m, (o, top));
+        true
+    } else {
+        SessionStorage::put(
+            m,
+            SessionValue {
+                origin: o,
+                top,
+                value: v,
+            },
+        )
     }
-    let row = SessionValue {
-        origin: o,
-        top: top,
-        value: v,
-    };
-    session_storage::put(m, row)
 }
 
 // What a script hears, an XHR's answer or a message, is filed as the next input of its document.
 pub fn next_input(m: &Memory, n: DocumentNumber, news: News) -> Input
     ensures { result ≡ next_input n news (table inputs_in m.now) }
 {
-    let earlier = inputs::tally(m, inputs::Which::OfDocument(n));
+    let earlier = Inputs::tally(m, |i| i.document == n);
     Input {
         document: n,
-        arrival: (earlier as u32) + 1,
-        news: news,
+        arrival: earlier as u32 + 1,
+        news,
     }
 }

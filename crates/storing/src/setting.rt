@@ -1,9 +1,10 @@
 // Which cookies may be set at all, and of each name the one that stands last, among the few that a script's step or an answer brings.
-ghost use Rattle.std.specs.Prelude.{◌≡◌, drop};
+ghost use Rattle.std.specs.Prelude.{◌≡◌, Bool, ℕ, drop};
+ghost use Rattle.types.specs.declared.cookies.Cookie.{Cookie};
 ghost use Rattle.sorted.specs.Table.{keep};
 ghost use Rattle.types.specs.Lists.{cookies_in};
 ghost use Rattle.wim.specs.Cookies.{bad_prefix, named, latest};
-ghost use Rattle.storing.specs.Setting.{may_set};
+ghost use Rattle.storing.specs.Setting.{may_set, sifted};
 
 use types::Protocol;
 use types::cookies::{Cookie, CookieName, SetCookies};
@@ -11,58 +12,50 @@ use types::cookies::{Cookie, CookieName, SetCookies};
 // As many as an answer or a script's step brings.
 pub const FEW: usize = 4;
 
+// Of few cookies those that pass a test, which is also told the place behind each.
+pub fn kept<F: Fn(Cookie, usize) -> bool>(few: SetCookies, test: F) -> SetCookies
+    requires { F.IsAlwaysCallable test }
+    ensures { (p : Cookie → ℕ → Bool) → ((c : Cookie) (i : ℕ) (b : Bool) → F.post test c i b → b ≡ p c i) → cookies_in result ≡ sifted p 0 (cookies_in few) }
+{
+    let mut rows = few.rows;
+    let mut count = 0;
+    for i in 0..sorted::used(few.count, FEW) {
+        let c = few.rows[i];
+        if test(c, i + 1) {
+            rows[count] = c;
+            count += 1;
+        }
+    }
+    SetCookies { rows, count }
+}
+
 fn bad_prefix(p: Protocol, c: Cookie) -> bool
     ensures { result ≡ bad_prefix p c }
 {
-    let name = c.name;
-    let plain = sorted::not(labels::is_secure(p));
-    let lax = sorted::not(c.secure);
-    sorted::both(name.prefixed, sorted::either(plain, lax))
+    c.name.prefixed && (!labels::is_secure(p) || !c.secure)
 }
 
 fn may_set(script: bool, p: Protocol, c: Cookie) -> bool
     ensures { result ≡ may_set script p c }
 {
-    let hidden = sorted::both(script, c.httponly);
-    let bad = bad_prefix(p, c);
-    sorted::not(sorted::either(hidden, bad))
+    !(script && c.httponly || bad_prefix(p, c))
 }
 
 // Those that a script, or an answer, may set at all.
 pub fn permitted(few: SetCookies, script: bool, p: Protocol) -> SetCookies
     ensures { cookies_in result ≡ keep (may_set script p) (cookies_in few) }
 {
-    let n = sorted::used(few.count, FEW);
-    let mut u = few;
-    let mut j: usize = 0;
-    let mut i: usize = 0;
-    while i < n {
-        let c = u.rows[i];
-        if may_set(script, p, c) {
-            u.rows[j] = c;
-            j += 1;
-            i += 1;
-        } else {
-            i += 1;
-        }
-    }
-    u.count = j;
-    u
+    kept(few, |c, _| may_set(script, p, c))
 }
 
 // Whether one of the cookies has a name, from one place on.
 fn named_from(few: SetCookies, from: usize, name: CookieName) -> bool
     ensures { result ≡ named name (drop from (cookies_in few)) }
 {
-    let n = sorted::used(few.count, FEW);
-    let mut i = from;
-    while i < n {
-        let c = few.rows[i];
-        let own = c.name;
-        if labels::same_name(own, name) {
+    for i in from..sorted::used(few.count, FEW) {
+        if labels::same_name(few.rows[i].name, name) {
             return true;
         }
-        i += 1;
     }
     false
 }
@@ -71,21 +64,5 @@ fn named_from(few: SetCookies, from: usize, name: CookieName) -> bool
 pub fn latest(few: SetCookies) -> SetCookies
     ensures { cookies_in result ≡ latest (cookies_in few) }
 {
-    let n = sorted::used(few.count, FEW);
-    let mut u = few;
-    let mut j: usize = 0;
-    let mut i: usize = 0;
-    while i < n {
-        let c = u.rows[i];
-        let name = c.name;
-        if named_from(u, i + 1, name) {
-            i += 1;
-        } else {
-            u.rows[j] = c;
-            j += 1;
-            i += 1;
-        }
-    }
-    u.count = j;
-    u
+    kept(few, |c, behind| !named_from(few, behind, c.name))
 }

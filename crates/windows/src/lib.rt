@@ -1,167 +1,113 @@
 // The windows, by number, in lent memory. Written by tools/tables.py.
 #![tactic(auto)]
 
-mod rows; // a row read from its numbers and written as them
-mod tests; // which rows are meant
-
-ghost use Rattle.std.specs.Prelude.{◌≡◌};
-ghost use Rattle.sorted.specs.Table.{find, looked};
-ghost use Rattle.memory.specs.Rows.{table, Found as Placed, Kept, Put, Cleared};
+ghost use Rattle.std.specs.Prelude.{◌≡◌, ℕ};
+ghost use Rattle.std.proofs.Common.{refl, rules};
 ghost use Rattle.tables.specs.Tables.{windows, key_of, cmp};
-ghost use Rattle.tables.specs.Labels.{clean};
-ghost use Rattle.tables.specs.View.{label_of};
-ghost use Rattle.windows.specs.Which.{passes, key_stands, spares};
-ghost use Rattle.layouts.specs.Tables.{windows_in};
+ghost use Rattle.tables.specs.Labels.{mentions, clean};
+ghost use Rattle.rows.proofs.Clean.{clean_where_none};
+ghost use Rattle.layouts.specs.Rows.{window_of};
 
-use memory::Memory;
-use rows::{COUNT, FIRST, WIDTH, blank, write};
-pub use rows::{WINDOWS, row, size};
-pub use tests::Which;
-use tests::{spared, stands, test};
+use rows::{Labelled, Table};
+use sorted::Order;
 use types::rows::Window;
-use types::{Label, WindowNumber, WindowNumbers};
+use types::{Label, WindowNumber};
 
-// A row, if one was found. Where none was, `row` says nothing.
-#[derive(Clone, Copy)]
-pub struct Found {
-    pub found: bool,
-    pub row: Window,
-}
+// How many rows there is room for.
+pub const WINDOWS: usize = 32;
 
-// The place of the first row that does not stand before a key, whether it has that key, and how many rows count.
-fn seek(m: &Memory, number: WindowNumber) -> sorted::At
-    ensures { Placed windows_in (key_stands number) m.now result.place result.hit result.used }
-{
-    let n = size(m);
-    let mut i: usize = 0;
-    while i < n {
-        let o = stands(number, row(m, i));
-        if sorted::after(o) {
-            i += 1;
-        } else {
-            return sorted::At {
-                place: i,
-                hit: sorted::same(o),
-                used: n,
-            };
+pub struct Windows;
+
+impl Table for Windows {
+    type Row = Window;
+
+    type Head = Window;
+
+    type Key = WindowNumber;
+
+    const COUNT: usize = 0;
+
+    const WIDTH: usize = 5;
+
+    const CAPACITY: usize = WINDOWS;
+
+    ghost COUNT = { 0 };
+
+    ghost WIDTH = { 5 };
+
+    ghost CAPACITY = { 32 };
+
+    ghost decode = { window_of };
+
+    ghost head_of = { λ row. row };
+
+    ghost kept = { λ row. row };
+
+    ghost Sort = { ℕ };
+
+    ghost sort = { λ key. key.0 };
+
+    ghost key_of = { key_of windows };
+
+    ghost cmp = { cmp windows };
+
+    fn read(c: &[u32]) -> Window {
+        Window {
+            number: WindowNumber(layouts::number(c, 0)),
+            parent: layouts::parent_at(c, 1),
+            opener: layouts::opener_at(c, 3),
         }
     }
-    sorted::At {
-        place: i,
-        hit: false,
-        used: n,
-    }
-}
 
-// The first row that passes a test.
-pub fn first(m: &Memory, q: Which) -> Found
-    ensures { looked result.found result.row ≡ find (passes q) (table windows_in m.now) }
-{
-    let n = size(m);
-    let mut i: usize = 0;
-    while i < n {
-        let found = row(m, i);
-        if test(found, q) {
-            return Found {
-                found: true,
-                row: found,
-            };
-        }
-        i += 1;
+    fn glance(c: &[u32]) -> Window {
+        Self::read(c)
     }
-    let none = blank();
-    Found {
-        found: false,
-        row: none,
-    }
-}
 
-// Only rows that pass a test stay. None is copied onto itself.
-pub fn keep(m: &mut Memory, q: Which)
-    ensures { Kept windows_in (passes q) m.old m.new }
-{
-    memory::whole(m);
-    let n = size(m);
-    let mut j: usize = 0;
-    let mut i: usize = 0;
-    while i < n {
-        let seen = row(m, i);
-        if test(seen, q) {
-            if j < i {
-                memory::carry(m, FIRST + i * WIDTH, FIRST + j * WIDTH, WIDTH);
-                j += 1;
-                i += 1;
-            } else {
-                j += 1;
-                i += 1;
-            }
-        } else {
-            i += 1;
+    fn write(c: &mut [u32], row: Window) {
+        let numbers = numbers_of(row);
+        if c.len() == numbers.len() {
+            c.copy_from_slice(&numbers);
         }
     }
-    m[COUNT] = j as u32;
-}
 
-// A row goes in, in the place of the one with its key; whether there was room. Where there was none, nothing changes.
-pub fn put(m: &mut Memory, row: Window) -> bool
-    ensures { Put windows_in (key_of windows) (cmp windows) row m.old m.new result }
-{
-    memory::whole(m);
-    let number = row.number;
-    let s = seek(m, number);
-    let at = s.place;
-    let n = s.used;
-    if s.hit {
-        write(m, at, row);
-        return true;
+    fn head(row: Window) -> Window {
+        row
     }
-    let room = n < WINDOWS;
-    if room {
-        memory::shift(m, FIRST + at * WIDTH, FIRST + n * WIDTH, WIDTH);
-        write(m, at, row);
-        m[COUNT] = (n + 1) as u32;
-        return true;
+
+    fn key(h: Window) -> WindowNumber {
+        h.number
     }
-    false
-}
 
-// No row is left.
-pub fn clear(m: &mut Memory)
-    ensures { Cleared windows_in m.old m.new }
-{
-    memory::whole(m);
-    m[COUNT] = 0;
-}
-
-// Whether no row speaks of a label.
-pub fn clean(m: &Memory, l: Label) -> bool
-    ensures { result ≡ clean windows (label_of l) (table windows_in m.now) }
-{
-    sorted::not(first(m, Which::Mentions(l)).found)
-}
-
-// Only rows that are spared stay.
-pub fn without(m: &mut Memory, gone: WindowNumbers)
-    ensures { Kept windows_in (spares gone) m.old m.new }
-{
-    memory::whole(m);
-    let n = size(m);
-    let mut k: usize = 0;
-    let mut i: usize = 0;
-    while i < n {
-        let seen = row(m, i);
-        if spared(seen, gone) {
-            if k < i {
-                memory::carry(m, FIRST + i * WIDTH, FIRST + k * WIDTH, WIDTH);
-                k += 1;
-                i += 1;
-            } else {
-                k += 1;
-                i += 1;
-            }
-        } else {
-            i += 1;
-        }
+    fn order(a: WindowNumber, b: WindowNumber) -> Order {
+        sorted::compare(a.0 as u64, b.0 as u64)
     }
-    m[COUNT] = k as u32;
+
+    ghost fits = { Prim.search rules };
+
+    ghost few = { Prim.search rules };
+
+    ghost same_key = { λ row. refl };
+}
+
+impl Labelled for Windows {
+    ghost mentions = { mentions windows };
+
+    ghost clean = { clean windows };
+
+    fn mentions(h: Window, l: Label) -> bool {
+        l == Label::OfWindow(h.number)
+            || labels::in_parent(l, h.parent)
+            || labels::in_opener(l, h.opener)
+    }
+
+    ghost cleaned = { clean_where_none windows };
+}
+
+// A row's numbers.
+fn numbers_of(row: Window) -> [u32; 5]
+    ensures { window_of result ≡ row }
+{
+    let parent = layouts::parent_numbers(row.parent);
+    let opener = layouts::opener_numbers(row.opener);
+    [row.number.0, parent[0], parent[1], opener[0], opener[1]]
 }

@@ -1,6 +1,0 @@
--- By what the calls ensure. Written by tools/tables.py.
-use Rattle.documents.proofs.tests.after_in.Statement.{statement}
-use Rattle.documents.proofs.tests.after_in.Tie as tie
-
-pub after_in_spec : {M : Type 1} → statement M
-after_in_spec = tie.close (tie.spec (λ c κs. tt) (λ c κs. tt) (λ c κs. tt) (λ c. rw (c.both.ensures, c.before.just_after-there.ensures, c.before.before.in_window-here.ensures)))

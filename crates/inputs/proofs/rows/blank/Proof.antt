@@ -1,7 +1,0 @@
--- As the decoder says of no numbers. Written by tools/tables.py.
-use mathlib.Core.Path.{refl}
-use Rattle.inputs.proofs.rows.blank.Statement.{statement}
-use Rattle.inputs.proofs.rows.blank.Tie as tie
-
-pub blank_spec : {M : Type 1} → statement M
-blank_spec = tie.close (tie.spec (λ c. refl))

@@ -1,9 +1,0 @@
--- A count beyond the capacity reads as the capacity. Written by tools/tables.py.
-use mathlib.Core.Path.{sym, ◌∙◌}
-use Rattle.memory.proofs.Table.{counted}
-use Rattle.layouts.specs.Tables.{requests_in}
-use Rattle.pending_requests.proofs.rows.size.Statement.{statement}
-use Rattle.pending_requests.proofs.rows.size.Tie as tie
-
-pub size_spec : {M : Type 1} → statement M
-size_spec = tie.close (tie.spec (λ c κs. tt) (λ c. c.used.ensures ∙ sym (counted requests_in c.args.m.now)))

@@ -1,7 +1,0 @@
--- Part by part. Written by tools/tables.py.
-use borrow.Author.Rules.{rules}
-use Rattle.session_storage.proofs.tests.stands.Statement.{statement}
-use Rattle.session_storage.proofs.tests.stands.Tie as tie
-
-pub stands_spec : {M : Type 1} → statement M
-stands_spec = tie.close (tie.spec (λ c. search rules) (λ c. search rules) (λ c κs. tt) (λ c κs. tt) (λ c κs. tt) (λ c κs. tt) (λ c. search rules) (λ c. search rules) (λ c κs. tt) (λ c κs. tt) (λ c κs. tt) (λ c. rw (c.then-2.ensures, c.before.then.ensures, c.before.before.compare-by_top.ensures, c.before.before.before.before.before.compare_bools-by_protocol.ensures, c.before.before.before.before.before.before.is_secure-its.ensures, c.before.before.before.before.before.before.before.is_secure-mine.ensures, c.before.before.before.before.before.before.before.before.before.compare-by_host.ensures)))
