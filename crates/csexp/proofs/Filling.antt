@@ -1,70 +1,92 @@
 -- A list of at most `room` terms, read into an array by a loop: what the loop's invariant says, and a law for each thing that a turn does.
---     none · done · full · broken · more
-use mathlib.Core.Path.{◌≡◌, sym, ap, subst, ◌∙◌}
+--     begun · done · full · broken · more
+use mathlib.Core.Path.{◌≡◌, refl, sym, ap, ap₂, subst, ◌∙◌}
 use mathlib.Core.List.{List, [], ◌∷◌, ◌++◌, append-nil}
-use Prim.Native.Nat.{ℕ, suc, ◌+◌, ◌-◌, ◌≤◌, ◌<◌}
+use Rattle.std.specs.Prelude.{Option, None as none, Some as some, option_map, option_and_then}
+use Rattle.std.specs.Option.{option_or}
+use Prim.Native.Nat.{ℕ, zero, suc, ◌+◌, ◌-◌, ◌≤◌, ◌<◌}
 use native.Mathlib.Omega.{arith}
 use native.Mathlib.Numerals.{add-one}
 use native.Mathlib.Nat.{sub-zero}
 use lib.ListN.{length, take, set, length-set}
 use lib.Seq.{take-suc-set, append_snoc}
+use Rattle.csexp.specs.declared.At.{At}
+use Rattle.csexp.specs.At.{ends, mark_at}
 use Rattle.csexp.specs.Decode.{Decoder, up_to}
-use Rattle.csexp.specs.Answers.{Reads, Rest, Marks}
-use Rattle.csexp.proofs.Steps.{ended, refused, counted, rest-past, seen-past}
+use Rattle.csexp.specs.Answers.{value_at, fields_at}
+use Rattle.csexp.proofs.Steps.{full_at, counted}
+
+-- what was found, with these before it
+abbrev pub behind_these : {A : Type 0} → List A → Option (At (List A)) → Option (At (List A))
+behind_these front m = option_map (λ l. ends (front ++ l.value) l.next) m
+
+abbrev with_one : {A : Type 0} → At A → Option (At (List A)) → Option (At (List A))
+with_one a m = option_map (λ l. ends (a.value ∷ l.value) l.next) m
 
 -- `count` terms from p₀ on stand in `items`, and the others stand from p on
 pub record Filling {A : Type 0} (d : Decoder A) (room : ℕ) (s : List ℕ) (p₀ : ℕ) (items : List A) (count p : ℕ) : Type 0 where
   pub fits : count ≤ room
   pub long : length items ≡ room
-  pub go_on : (vs : List A) (q : ℕ) → Rest (up_to (room - count) d) s p vs q → Rest (up_to room d) s p₀ (take count items ++ vs) q
+  pub go_on : fields_at (up_to room d) s p₀ ≡ behind_these (take count items) (fields_at (up_to (room - count) d) s p)
 
 pub begun : {A : Type 0} {d : Decoder A} {room : ℕ} {s : List ℕ} {p : ℕ} {items : List A} → length items ≡ room → Filling d room s p items 0 p
 begun {A} {d} {room} {s} {p} {items} e = record {
   fits = omega arith;
   long = e;
-  go_on = λ vs q r. subst (λ (n : ℕ). Rest (up_to n d) s p vs q) (sub-zero room) r;
+  go_on = go (fields_at (up_to room d) s p) ∙ ap (λ (n : ℕ). behind_these (take 0 items) (fields_at (up_to n d) s p)) (sym (sub-zero room));
 }
+  where
+    go : (m : Option (At (List A))) → m ≡ behind_these [] m
+    go none = refl
+    go (some l) = refl
 
-room-left : (room count : ℕ) → count < room → suc (room - (count + 1)) ≡ room - count
-room-left room count h = omega arith
-
-module _ {A : Type 0} {d : Decoder A} {room : ℕ} {s : List ℕ} {p₀ : ℕ} {items : List A} {count p e : ℕ} where
-  pub done : Filling d room s p₀ items count p → Marks 41 s p e → e ≤ length s → Rest (up_to room d) s p₀ (take count items) e
-  done f m h = subst (λ (l : List A). Rest (up_to room d) s p₀ l e) (append-nil (take count items)) (f.go_on [] e (ended d (room - count) m h))
-
-  pub full : {q : ℕ} → Filling d room s p₀ items count p → Marks 41 s p e → length s < e → count ≡ room → length s < q
-      → Rest (up_to room d) s p₀ (take count items) q
-  full {q} f m h all o =
-      subst (λ (l : List A). Rest (up_to room d) s p₀ l q) (append-nil (take count items))
-      (f.go_on [] q (subst (λ (n : ℕ). Rest (up_to n d) s p [] q) (let z : 0 ≡ room - count = omega arith in z) (refused d m h o)))
-
-  pub broken : {q n : ℕ} {v : A} → Filling d room s p₀ items count p → Marks 41 s p e → length s < e → count < room → Reads d s p v n → length s < n → length s < q
-      → Rest (up_to room d) s p₀ (take count items) q
-  broken {q} {n} {v} f m h room_for r past o =
-      let tail : Rest (up_to (room - count) d) s p (v ∷ []) q =
-      subst (λ (k : ℕ). Rest (up_to k d) s p (v ∷ []) q) (room-left room count room_for) (counted d (room - (count + 1)) m h r (rest-past past o)) in
-      other-value o (f.go_on (v ∷ []) q tail)
+module _ {A : Type 0} {d : Decoder A} {room : ℕ} {s : List ℕ} {p₀ : ℕ} {items : List A} {count p : ℕ} where
+  pub done : {e : ℕ} → Filling d room s p₀ items count p → mark_at 41 s p ≡ some e → fields_at (up_to room d) s p₀ ≡ some (ends (take count items) e)
+  done {e} f m =
+      f.go_on ∙ ap (behind_these (take count items)) (here (room - count)) ∙ ap (λ (l : List A). some (ends l e)) (append-nil (take count items))
     where
-      other-value : {q : ℕ} {v w : List A} → length s < q → Rest (up_to room d) s p₀ v q → Rest (up_to room d) s p₀ w q
-      other-value {q} {v} {w} o r = record {
-        exactly = seen-past s w q o ∙ sym (seen-past s v q o) ∙ r.exactly;
-      }
+      here : (n : ℕ) → fields_at (up_to n d) s p ≡ some (ends [] e)
+      here zero = full_at s p d ∙ ap (option_map (λ q. ends [] q)) m
+      here (suc n) =
+          counted s p n d
+          ∙ ap (λ (m : Option ℕ). option_or (option_map (λ q. ends [] q) m) (option_and_then (λ a. with_one a (fields_at (up_to n d) s a.next)) (value_at d s p))) m
 
-  pub more : {n : ℕ} {v : A} → Filling d room s p₀ items count p → Marks 41 s p e → length s < e → count < room → Reads d s p v n
-      → Filling d room s p₀ (set items count v) (count + 1) n
-  more {n} {v} f m h room_for r = record {
+  -- there is no room for what stands here
+  pub full : Filling d room s p₀ items count p → mark_at 41 s p ≡ none → count ≡ room → fields_at (up_to room d) s p₀ ≡ none
+  full f m all =
+      f.go_on
+      ∙ ap (λ (n : ℕ). behind_these (take count items) (fields_at (up_to n d) s p)) (let z : room - count ≡ 0 = omega arith in z)
+      ∙ ap (behind_these (take count items)) (full_at s p d ∙ ap (option_map (λ q. ends [] q)) m)
+
+  one_more : {v : Option (At A)} → Filling d room s p₀ items count p → mark_at 41 s p ≡ none → count < room → value_at d s p ≡ v
+      → fields_at (up_to room d) s p₀ ≡ behind_these (take count items) (option_and_then (λ a. with_one a (fields_at (up_to (room - (count + 1)) d) s a.next)) v)
+  one_more f m room_for r =
+      f.go_on
+      ∙ ap (behind_these (take count items))
+      (ap (λ (n : ℕ). fields_at (up_to n d) s p) (let e : room - count ≡ suc (room - (count + 1)) = omega arith in e)
+      ∙ counted s p (room - (count + 1)) d
+      ∙ ap₂ (λ (m : Option ℕ) (v : Option (At A)). option_or (option_map (λ q. ends [] q) m) (option_and_then (λ a. with_one a (fields_at (up_to (room - (count + 1)) d) s a.next)) v)) m r)
+
+  pub broken : Filling d room s p₀ items count p → mark_at 41 s p ≡ none → count < room → value_at d s p ≡ none → fields_at (up_to room d) s p₀ ≡ none
+  broken f m room_for r = one_more f m room_for r
+
+  pub more : {a : At A} → Filling d room s p₀ items count p → mark_at 41 s p ≡ none → count < room → value_at d s p ≡ some a
+      → Filling d room s p₀ (set items count a.value) (count + 1) a.next
+  more {a} f m room_for r = record {
     fits = omega arith;
-    long = length-set items count v ∙ f.long;
-    go_on = λ vs q t.
-        subst (λ (l : List A). Rest (up_to room d) s p₀ l q) (grown vs)
-        (f.go_on (v ∷ vs) q (subst (λ (k : ℕ). Rest (up_to k d) s p (v ∷ vs) q) (room-left room count room_for) (counted d (room - (count + 1)) m h r t)));
+    long = length-set items count a.value ∙ f.long;
+    go_on = one_more f m room_for r ∙ grown (fields_at (up_to (room - (count + 1)) d) s a.next);
   }
     where
       fit : count < length items
       fit = subst (λ (k : ℕ). count < k) (sym f.long) room_for
 
-      grown : (vs : List A) → take count items ++ (v ∷ vs) ≡ take (count + 1) (set items count v) ++ vs
-      grown vs =
-          sym (ap (λ (k : ℕ). take k (set items count v) ++ vs) (add-one count)
-          ∙ ap (λ (l : List A). l ++ vs) (take-suc-set items count v fit)
-          ∙ append_snoc (take count items) v vs)
+      longer : (vs : List A) → take count items ++ (a.value ∷ vs) ≡ take (count + 1) (set items count a.value) ++ vs
+      longer vs =
+          sym (ap (λ (k : ℕ). take k (set items count a.value) ++ vs) (add-one count)
+          ∙ ap (λ (l : List A). l ++ vs) (take-suc-set items count a.value fit)
+          ∙ append_snoc (take count items) a.value vs)
+
+      grown : (m : Option (At (List A))) → behind_these (take count items) (with_one a m) ≡ behind_these (take (count + 1) (set items count a.value)) m
+      grown none = refl
+      grown (some l) = ap (λ (vs : List A). some (ends vs l.next)) (longer l.value)

@@ -1,199 +1,152 @@
--- The laws that the proof of a compound reader is put together from, one for each call in it. Past the end of the text nothing is
--- found, so the calls go on with no test in between.
---     opened · passed · closed             a list's '(', a field, its ')'
---     tried · tried_there · tried_not      a field that may be absent: what stands behind it, that it is there, that it is not
---     chosen · other · missed              the first of two decoders, the second, that the first finds nothing
---     vacant · filled                      () for no value, another term for one
---     mapped · meant                       a value made of a value, of a word
---     ended · counted · refused            a list of at most n: its ')', one more, no room
---     there · nowhere                      to an enum: found, not found
-use mathlib.Core.Path.{◌≡◌, refl, sym, ap, ◌∙◌}
+-- The laws by which readers are proved, one for each form of a decoder: what it finds at a position, from what its parts find. Each is an
+-- equation between what two sides find, so `grind` goes by it whichever way the reader took: a reader that hands back `None` at the
+-- first part that is not there, and what was found at the end, needs no proof file under `using(csexp::proofs::Steps::readers)`.
+--     opened · passed · closed          a list's '(' and its fields, a field and the others, its ')'
+--     tried                             a field that may be absent
+--     chosen · mapped · meant           one of two decoders, a value made of a value, a word that stands for a value
+--     optioned                          () for no value, another term for one
+--     full_at · counted                 a list of at most n: no room for more, one more
+--     ranged                            a number atom lies in its range
+--     forward                           what was found ends behind where it starts, within the text
+use mathlib.Core.Path.{◌≡◌, refl, ap, ap₂, fun_ext, ◌∙◌}
 use mathlib.Core.Bool.{Bool, true, false, cond}
 use mathlib.Core.List.{List, [], ◌∷◌}
-use Rattle.std.specs.Prelude.{Option, None as none, Some as some}
-use Prim.Native.Nat.{ℕ, zero, suc, ◌≤◌, ◌<◌}
-use native.Mathlib.Nat.{le_of_lt}
-use lib.ListN.{length, drop_of_length-le}
+use Rattle.std.specs.Prelude.{Option, None as none, Some as some, option_map, option_and_then, IfSome}
+use Prim.Native.Nat.{ℕ, suc, ◌-◌, ◌≤◌, ◌<◌}
+use native.Mathlib.Omega.{arith}
+use Rattle.std.specs.Option.{option_or}
+use lib.ListN.{length, drop, length-drop, length-append}
 use lib.Dec.{leb}
-use borrow.Author.Tests.{leb-false, le-leb, lt-leb}
-use Rattle.csexp.specs.Term.{Term}
-use Rattle.csexp.specs.Read.{reads, term}
-use Rattle.csexp.specs.At.{At, fails, ends, place, term_at, terms_at, mark_at, seen}
-use Rattle.csexp.specs.Decode.{Decoder, Fields, and_then, inside, one, end, up_to, perhaps, either, first, maps, word, means, empty_list, optionally}
-use Rattle.csexp.specs.Answers.{found, decode, Reads, Rest, Marks, tried_at, Tries}
-use Rattle.csexp.proofs.Places.{bind, or, at-inside, at_one, at-end, at-up-to, at_none, at-perhaps}
+use borrow.Author.Tests.{leb-true}
+use Rattle.csexp.specs.Term.{Term, atom, list, Terms, write}
+use Rattle.csexp.specs.Read.{Got, no, got, number, read}
+use Rattle.csexp.specs.declared.At.{At}
+use Rattle.csexp.specs.At.{ends, place, behind, term_at, terms_at, mark_at}
+use Rattle.csexp.specs.Decode.{Decoder, Fields, and_then, inside, one, end, up_to, perhaps, either, first, maps, word, means, numeral, atom_of, all_read, between, empty_list, optionally}
+use Rattle.csexp.specs.Answers.{found, decode, value_at, fields_at, tried_at}
+use Rattle.csexp.proofs.Terms.{read_sound, write-long}
+use Rattle.csexp.proofs.Places.{at-inside, at_one, at-end, at-up-to, at_none, at-perhaps}
 
-pub seen-past : {A : Type 0} (s : List ℕ) (v : A) (p : ℕ) → length s < p → seen s v p ≡ fails
-seen-past s v p h = simp (lt-leb p (length s) h)
+module _ (s : List ℕ) (at : ℕ) where
+  pub opened : {A : Type 0} (f : Fields A) → value_at (inside f) s at ≡ option_and_then (λ p. fields_at f s p) (mark_at 40 s at)
+  unfolding value_at fields_at
+  opened f = at-inside s at f
 
-pub seen-there : {A : Type 0} (s : List ℕ) (v : A) (p : ℕ) → p ≤ length s → seen s v p ≡ ends v p
-seen-there s v p h = simp (le-leb p (length s) h)
+  pub passed : {A B : Type 0} (d : Decoder A) (k : A → Fields B) → fields_at (one d k) s at ≡ option_and_then (λ a. fields_at (k a.value) s a.next) (value_at d s at)
+  unfolding value_at fields_at
+  passed d k = at_one s at d k
 
-terms-past : (s : List ℕ) (p : ℕ) → length s < p → terms_at s p ≡ fails
-unfolding terms_at reads term
-terms-past s p h = ap (λ (l : List ℕ). place s (reads l)) (drop_of_length-le s (le_of_lt h))
+  pub closed : {A : Type 0} (v : A) → fields_at (end v) s at ≡ option_map (λ p. ends v p) (mark_at 41 s at)
+  unfolding value_at fields_at
+  closed v = at-end s at v
 
--- a step from an answer of the code on, where what follows finds nothing past the end
-pub step : {A B : Type 0} (s : List ℕ) (v : A) (p : ℕ) (m : At A) (k : A → ℕ → At B) → seen s v p ≡ m → (length s < p → k v p ≡ fails) → bind m k ≡ k v p
-step s v p m k e h = ap (λ (x : At _). bind x k) (sym e) ∙ go (leb p (length s)) refl
-  where
-    go : (c : Bool) → leb p (length s) ≡ c → bind (cond c (ends v p) fails) k ≡ k v p
-    go true q = refl
-    go false q = sym (h (leb-false p (length s) q))
+  pub tried : {A B C : Type 0} (b : B) (f : A → B) (d : Decoder A) (k : B → Fields C)
+      → fields_at (perhaps b f d k) s at ≡ (let v = tried_at b f at (value_at d s at) in fields_at (k v.value) s v.next)
+  unfolding value_at fields_at
+  tried b f d k = at-perhaps s at b f d k
 
-last : {A B : Type 0} (s : List ℕ) (v : A) (w : B) (p : ℕ) (m : At A) → seen s v p ≡ m → seen s w p ≡ bind m (λ _ q. ends w q)
-last s v w p m e = go (leb p (length s)) ∙ ap (λ (x : At _). bind x (λ _ q. ends w q)) e
-  where
-    go : (c : Bool) → cond c (ends w p) fails ≡ bind (cond c (ends v p) fails) (λ _ q. ends w q)
-    go true = refl
-    go false = refl
+  pub chosen : {A : Type 0} (d e : Decoder A) → value_at (either d e) s at ≡ option_or (value_at d s at) (value_at e s at)
+  unfolding value_at either
+  chosen {A} d e = go (term_at s at)
+    where
+      by : (a b : Option A) (p : ℕ) → found (first a b) p ≡ option_or (found a p) (found b p)
+      by none b p = refl
+      by (some a) b p = refl
 
-pub opened : {A : Type 0} {s : List ℕ} {at p q : ℕ} {f : Fields A} {v : A} → Marks 40 s at p → Rest f s p v q → Reads (inside f) s at v q
-opened {A} {s} {at} {p} {q} {f} {v} m r = record {
-  exactly = r.exactly
-      ∙ sym (at-inside s at f ∙ step s tt p (mark_at 40 s at) (λ _ q. decode f (terms_at s q)) m.exactly (λ h. ap (decode f) (terms-past s p h)));
-}
+      go : (m : Option (At Term)) → decode (either d e) m ≡ option_or (decode d m) (decode e m)
+      go none = refl
+      go (some t) = by (d t.value) (e t.value) t.next
 
-pub passed : {A B : Type 0} {s : List ℕ} {at p q : ℕ} {d : Decoder A} {v : A} {w : B} (k : A → Fields B)
-    → Reads d s at v p → Rest (k v) s p w q → Rest (one d k) s at w q
-passed {A} {B} {s} {at} {p} {q} {d} {v} {w} k m r = record {
-  exactly = r.exactly
-      ∙ sym (at_one s at d k ∙ step s v p (decode d (term_at s at)) (λ a q. decode (k a) (terms_at s q)) m.exactly (λ h. ap (decode (k v)) (terms-past s p h)));
-}
+  pub mapped : {A B : Type 0} (f : A → B) (d : Decoder A) → value_at (maps f d) s at ≡ option_map (λ a. ends (f a.value) a.next) (value_at d s at)
+  unfolding value_at maps
+  mapped {A} {B} f d = go (term_at s at)
+    where
+      by : (a : Option A) (p : ℕ) → found (and_then a (λ a. some (f a))) p ≡ option_map (λ a. ends (f a.value) a.next) (found a p)
+      by none p = refl
+      by (some a) p = refl
 
-pub closed : {A : Type 0} {s : List ℕ} {at p : ℕ} {v : A} → Marks 41 s at p → Rest (end v) s at v p
-closed {A} {s} {at} {p} {v} m = record { exactly = last s tt v p (mark_at 41 s at) m.exactly ∙ sym (at-end s at v) }
+      go : (m : Option (At Term)) → decode (maps f d) m ≡ option_map (λ a. ends (f a.value) a.next) (decode d m)
+      go none = refl
+      go (some t) = by (d t.value) t.next
 
--- what the code says of a value, of another made of it
-seen_map : {A B : Type 0} (s : List ℕ) (f : A → B) (v : A) (p : ℕ) → seen s (f v) p ≡ bind (seen s v p) (λ a q. ends (f a) q)
-seen_map s f v p = go (leb p (length s))
-  where
-    go : (c : Bool) → cond c (ends (f v) p) fails ≡ bind (cond c (ends v p) fails) (λ a q. ends (f a) q)
-    go true = refl
-    go false = refl
+  pub meant : {A : Type 0} (w : List ℕ) (v : A) → value_at (means w v) s at ≡ option_map (λ p. ends v p) (behind (value_at (word w) s at))
+  unfolding means
+  meant w v = mapped (λ _. v) (word w) ∙ go (value_at (word w) s at)
+    where
+      go : (m : Option (At (Unit {0}))) → option_map (λ a. ends v a.next) m ≡ option_map (λ p. ends v p) (behind m)
+      go none = refl
+      go (some a) = refl
 
-found_map : {A B : Type 0} (f : A → B) (m : Option A) (p : ℕ) → found (and_then m (λ a. some (f a))) p ≡ bind (found m p) (λ a q. ends (f a) q)
-found_map f none p = refl
-found_map f (some a) p = refl
-
-decode_map : {T A B : Type 0} (f : A → B) (d : T → Option A) (m : At T) → decode (λ t. and_then (d t) (λ a. some (f a))) m ≡ bind (decode d m) (λ a q. ends (f a) q)
-decode_map f d fails = refl
-decode_map f d (ends t p) = found_map f (d t) p
-
-pub mapped : {A B : Type 0} {s : List ℕ} {at p : ℕ} {d : Decoder A} {v : A} {w : B} (f : A → B) → Reads d s at v p → f v ≡ w → Reads (maps f d) s at w p
-unfolding maps
-mapped {A} {B} {s} {at} {p} {d} {v} {w} f m e = record {
-  exactly = ap (λ (x : B). seen s x p) (sym e) ∙ seen_map s f v p ∙ ap (λ (x : At A). bind x (λ a q. ends (f a) q)) m.exactly ∙ sym (decode_map f d (term_at s at));
-}
-
-found_first : {A : Type 0} (a b : Option A) (p : ℕ) → found (first a b) p ≡ or (found a p) (found b p)
-found_first none b p = refl
-found_first (some a) b p = refl
-
-pub decode-either : {A : Type 0} (d e : Decoder A) (m : At Term) → decode (either d e) m ≡ or (decode d m) (decode e m)
-unfolding either
-decode-either d e fails = refl
-decode-either d e (ends t p) = found_first (d t) (e t) p
-
--- the first decoder found it
-pub chosen : {A : Type 0} {s : List ℕ} {at p : ℕ} {d : Decoder A} {v : A} (e : Decoder A) → Reads d s at v p → p ≤ length s → Reads (either d e) s at v p
-chosen {A} {s} {at} {p} {d} {v} e m h = record {
-  exactly = seen-there s v p h ∙ sym (decode-either d e (term_at s at) ∙ ap (λ (x : At A). or x (decode e (term_at s at))) (sym m.exactly ∙ seen-there s v p h));
-}
-
--- the decoder finds nothing there
-pub record Misses {A : Type 0} (d : Decoder A) (s : List ℕ) (at : ℕ) : Type 0 where
-  pub misses : decode d (term_at s at) ≡ fails
-
-pub missed : {A : Type 0} {s : List ℕ} {at p : ℕ} {d : Decoder A} {v : A} → Reads d s at v p → length s < p → Misses d s at
-missed {A} {s} {at} {p} {d} {v} m h = record { misses = sym m.exactly ∙ seen-past s v p h }
-
-pub missed_mapped : {A B : Type 0} {s : List ℕ} {at : ℕ} {d : Decoder A} (f : A → B) → Misses d s at → Misses (maps f d) s at
-unfolding maps
-missed_mapped {A} {B} {s} {at} {d} f m = record { misses = decode_map f d (term_at s at) ∙ ap (λ (x : At A). bind x (λ a q. ends (f a) q)) m.misses }
-
-pub meant : {A : Type 0} {s : List ℕ} {at p : ℕ} {v : A} (w : List ℕ) → Reads (word w) s at tt p → Reads (means w v) s at v p
-unfolding means
-meant {A} {s} {at} {p} {v} w m = mapped (λ _. v) m refl
-
-pub missed_meant : {A : Type 0} {s : List ℕ} {at p : ℕ} (w : List ℕ) (v : A) → Reads (word w) s at tt p → length s < p → Misses (means w v) s at
-unfolding means
-missed_meant w v m h = missed_mapped (λ _. v) (missed m h)
-
--- the first decoder finds nothing, and this is what the second one finds
-pub other : {A : Type 0} {s : List ℕ} {at q : ℕ} {e : Decoder A} {w : A} (d : Decoder A) → Misses d s at → Reads e s at w q → Reads (either d e) s at w q
-other {A} {s} {at} {q} {e} {w} d m n = record {
-  exactly = n.exactly ∙ sym (decode-either d e (term_at s at) ∙ ap (λ (x : At A). or x (decode e (term_at s at))) m.misses);
-}
-
--- a field that may be absent
-module _ {A B : Type 0} {s : List ℕ} {at : ℕ} {d : Decoder A} (b : B) (f : A → B) where
-  pub tried_there : {p : ℕ} {a : A} {v : B} → Reads d s at a p → p ≤ length s → f a ≡ v → Tries b f d s at v p
-  tried_there {p} {a} {v} m h e = record { exactly = ap (λ (x : B). ends x p) (sym e) ∙ ap (tried_at b f at) (sym (seen-there s a p h) ∙ m.exactly) }
-
-  pub tried_not : Misses d s at → Tries b f d s at b at
-  tried_not m = record { exactly = sym (ap (tried_at b f at) m.misses) }
-
-pub tried : {A B C : Type 0} {s : List ℕ} {at p q : ℕ} {b v : B} {f : A → B} {d : Decoder A} {w : C} (k : B → Fields C)
-    → Tries b f d s at v p → Rest (k v) s p w q → Rest (perhaps b f d k) s at w q
-tried {A} {B} {C} {s} {at} {p} {q} {b} {v} {f} {d} {w} k m r = record {
-  exactly = r.exactly ∙ sym (at-perhaps s at b f d k ∙ ap (λ (x : At B). bind x (λ v p. decode (k v) (terms_at s p))) (sym m.exactly));
-}
-
--- () or a value
-module _ {A B : Type 0} {s : List ℕ} {at p : ℕ} where
-  pub vacant : {b : B} (f : A → B) (d : Decoder A) → Reads empty_list s at tt p → p ≤ length s → Reads (optionally b f d) s at b p
+  pub optioned : {A B : Type 0} (b : B) (f : A → B) (d : Decoder A)
+      → value_at (optionally b f d) s at
+      ≡ option_or (option_map (λ p. ends b p) (behind (value_at empty_list s at))) (option_map (λ a. ends (f a.value) a.next) (value_at d s at))
   unfolding optionally
-  vacant {b} f d m h = chosen (maps f d) (mapped (λ _. b) m refl) h
+  optioned b f d = chosen (maps (λ _. b) empty_list) (maps f d) ∙ ap₂ option_or (mapped (λ _. b) empty_list ∙ go (value_at empty_list s at)) (mapped f d)
+    where
+      go : (m : Option (At (Unit {0}))) → option_map (λ a. ends b a.next) m ≡ option_map (λ p. ends b p) (behind m)
+      go none = refl
+      go (some a) = refl
 
-  pub filled : {q : ℕ} {d : Decoder A} {v : A} {w : B} (b : B) (f : A → B) → Reads empty_list s at tt p → length s < p → Reads d s at v q → f v ≡ w
-      → Reads (optionally b f d) s at w q
-  unfolding optionally
-  filled b f m h r e = other _ (missed_mapped (λ _. b) (missed m h)) (mapped f r e)
+  pub full_at : {A : Type 0} (d : Decoder A) → fields_at (up_to 0 d) s at ≡ option_map (λ p. ends [] p) (mark_at 41 s at)
+  unfolding fields_at
+  full_at d = at_none s at d ∙ at-end s at []
 
--- past the end nothing is found
-pub rest-past : {A : Type 0} {s : List ℕ} {at p : ℕ} {f : Fields A} {v : A} → length s < at → length s < p → Rest f s at v p
-rest-past {A} {s} {at} {p} {f} {v} h o = record { exactly = seen-past s v p o ∙ sym (ap (decode f) (terms-past s at h)) }
+  pub counted : {A : Type 0} (n : ℕ) (d : Decoder A)
+      → fields_at (up_to (suc n) d) s at
+      ≡ option_or (option_map (λ p. ends [] p) (mark_at 41 s at))
+      (option_and_then (λ a. option_map (λ l. ends (a.value ∷ l.value) l.next) (fields_at (up_to n d) s a.next)) (value_at d s at))
+  unfolding fields_at
+  counted {A} n d =
+      at-up-to s at n d
+      ∙ ap (option_or (option_map (λ p. ends [] p) (mark_at 41 s at)))
+      (passed d k ∙ ap (λ (h : At A → Option (At (List A))). option_and_then h (value_at d s at)) (fun_ext (λ a. more a.value (terms_at s a.next))))
+    where
+      k : A → Fields (List A)
+      k a ts = and_then (up_to n d ts) (λ l. some (a ∷ l))
 
-module _ {A : Type 0} {s : List ℕ} {at p : ℕ} (d : Decoder A) where
-  close-is : (h : p ≤ length s) → Marks 41 s at p → bind {B = List A} (mark_at 41 s at) (λ _ q. ends [] q) ≡ ends [] p
-  close-is h m = ap (λ (x : At (Unit {0})). bind {B = List A} x (λ _ q. ends [] q)) (sym m.exactly ∙ seen-there s tt p h)
+      one_more : (a : A) (l : Option (List A)) (p : ℕ) → found (and_then l (λ l. some (a ∷ l))) p ≡ option_map (λ l. ends (a ∷ l.value) l.next) (found l p)
+      one_more a none p = refl
+      one_more a (some l) p = refl
 
-  close_not : (h : length s < p) → Marks 41 s at p → bind {B = List A} (mark_at 41 s at) (λ _ q. ends [] q) ≡ fails
-  close_not h m = ap (λ (x : At (Unit {0})). bind {B = List A} x (λ _ q. ends [] q)) (sym m.exactly ∙ seen-past s tt p h)
+      more : (a : A) (m : Option (At Terms)) → decode (k a) m ≡ option_map (λ l. ends (a ∷ l.value) l.next) (decode (up_to n d) m)
+      more a none = refl
+      more a (some t) = one_more a (up_to n d t.value) t.next
 
-  -- the list ends here
-  pub ended : (n : ℕ) → Marks 41 s at p → p ≤ length s → Rest (up_to n d) s at [] p
-  ended zero m h = record { exactly = seen-there s [] p h ∙ sym (at_none s at d ∙ at-end s at [] ∙ close-is h m) }
-  ended (suc n) m h = record {
-    exactly = seen-there s [] p h
-        ∙ sym (at-up-to s at n d ∙ ap (λ (x : At (List A)). or x (decode (one d (λ a ts. and_then (up_to n d ts) (λ more. some (a ∷ more)))) (terms_at s at))) (close-is h m));
-  }
+  pub ranged : (lo hi : ℕ) → (value_at (numeral lo hi) s at ≡ value_at (numeral lo hi) s at) × IfSome (value_at (numeral lo hi) s at) (λ n. (lo ≤ n.value) × (n.value ≤ hi))
+  unfolding value_at numeral atom_of
+  ranged lo hi = (refl, go (term_at s at))
+    where
+      by : (n p : ℕ) (a b : Bool) → leb lo n ≡ a → leb n hi ≡ b → IfSome (found (cond a (cond b (some n) none) none) p) (λ n. (lo ≤ n.value) × (n.value ≤ hi))
+      by n p true true x y = (leb-true lo n x, leb-true n hi y)
+      by n p true false x y = tt
+      by n p false b x y = tt
 
-  -- it goes on, and there is no room
-  pub refused : {q : ℕ} {v : List A} → Marks 41 s at p → length s < p → length s < q → Rest (up_to 0 d) s at v q
-  refused {q} {v} m h o = record { exactly = seen-past s v q o ∙ sym (at_none s at d ∙ at-end s at [] ∙ close_not h m) }
+      read : (x : Option ℕ) (p : ℕ) → IfSome (found (and_then x (between lo hi)) p) (λ n. (lo ≤ n.value) × (n.value ≤ hi))
+      read none p = tt
+      read (some n) p = by n p (leb lo n) (leb n hi) refl refl
 
-  -- it goes on with one more
-  pub counted : {q r : ℕ} {v : A} {vs : List A} (n : ℕ) → Marks 41 s at p → length s < p → Reads d s at v q → Rest (up_to n d) s q vs r → Rest (up_to (suc n) d) s at (v ∷ vs) r
-  counted {q} {r} {v} {vs} n m h e t =
-      let k : A → Fields (List A) = λ a ts. and_then (up_to n d ts) (λ more. some (a ∷ more)) in
-      let rest : Rest (k v) s q (v ∷ vs) r = record {
-        exactly = seen_map s (λ (more : List A). v ∷ more) vs r ∙ ap (λ (x : At (List A)). bind x (λ a q. ends (v ∷ a) q)) t.exactly
-            ∙ sym (decode_map (λ (more : List A). v ∷ more) (up_to n d) (terms_at s q));
-      } in
-      record {
-        exactly = (passed k e rest).exactly
-            ∙ sym (at-up-to s at n d ∙ ap (λ (x : At (List A)). or x (decode (one d k) (terms_at s at))) (close_not h m));
-      }
+      of_term : (t : Term) (p : ℕ) → IfSome (found (numeral lo hi t) p) (λ n. (lo ≤ n.value) × (n.value ≤ hi))
+      of_term (atom bs) p = read (all_read (number bs)) p
+      of_term (list ts) p = tt
 
--- what the spec says, where the code found something
-pub there : {A : Type 0} {s : List ℕ} {at p : ℕ} {d : Decoder A} {v : A} → Reads d s at v p → p ≤ length s → ends v p ≡ decode d (term_at s at)
-there {A} {s} {at} {p} {d} {v} m h = sym (seen-there s v p h) ∙ m.exactly
+      go : (m : Option (At Term)) → IfSome (decode (numeral lo hi) m) (λ n. (lo ≤ n.value) × (n.value ≤ hi))
+      go none = tt
+      go (some t) = of_term t.value t.next
 
--- and where it did not
-pub nowhere : {A : Type 0} {s : List ℕ} {at p : ℕ} {d : Decoder A} {v : A} → Reads d s at v p → length s < p → fails ≡ decode d (term_at s at)
-nowhere {A} {s} {at} {p} {d} {v} m h = sym (seen-past s v p h) ∙ m.exactly
+  pub forward : {A : Type 0} (d : Decoder A) → (value_at d s at ≡ value_at d s at) × IfSome (value_at d s at) (λ a. (at < a.next) × (a.next ≤ length s))
+  unfolding value_at term_at
+  forward {A} d = (refl, go (read (drop at s)) refl)
+    where
+      by : (x : Option A) (p : ℕ) → at < p → p ≤ length s → IfSome (found x p) (λ a. (at < a.next) × (a.next ≤ length s))
+      by none p l h = tt
+      by (some a) p l h = (l, h)
 
--- what `search readers depth 16` proves a compound reader with
-pub ruleset readers = (opened, passed, closed, tried, tried_there, tried_not, chosen, other, vacant, filled, mapped, missed, missed_mapped, meant, missed_meant, refl)
+      go : (x : Got Term) → read (drop at s) ≡ x → IfSome (decode d (place s x)) (λ a. (at < a.next) × (a.next ≤ length s))
+      go no e = tt
+      go (got t r) e =
+          let l = ap length (read_sound (drop at s) e) ∙ length-append (write t) r in
+          let k = write-long t in
+          let j = length-drop at s in
+          by (d t) (length s - length r) (omega arith) (omega arith)
+
+pub ruleset readers = (opened, passed, closed, tried, chosen, mapped, meant, optioned, ranged)

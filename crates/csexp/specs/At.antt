@@ -1,33 +1,34 @@
--- What stands at a position of a text: a value and the position behind it.
-use Rattle.std.specs.Prelude.{cond, List, ℕ, ◌-◌, length, drop, leb}
+-- What stands at a position of a text: a value and the position behind it, or nothing.
+use Rattle.std.specs.Prelude.{List, ℕ, ◌-◌, length, drop, Option, None as none, Some as some, option_map}
 use Rattle.csexp.specs.Term.{Term, Terms}
 use Rattle.csexp.specs.Read.{Got, no, got, mark, number, string, read, reads}
+use Rattle.csexp.specs.declared.At.{At}
 
-pub data At (A : Type 0) : Type 0 where
-  fails : At A
-  ends : A → ℕ → At A
+-- the value a, which ends at p
+abbrev pub ends : {A : Type 0} → A → ℕ → At A
+ends a p = record { value = a; next = p }
 
 -- what is read in the text s, with the position behind it for the text that is left
-abbrev pub place : {A : Type 0} → List ℕ → Got A → At A
-place s no = fails
-place s (got a r) = ends a (length s - length r)
+abbrev pub place : {A : Type 0} → List ℕ → Got A → Option (At A)
+place s no = none
+place s (got a r) = some (ends a (length s - length r))
 
-unfoldable pub term_at : List ℕ → ℕ → At Term
+unfoldable pub term_at : List ℕ → ℕ → Option (At Term)
 term_at s at = place s (read (drop at s))
 
 -- the terms up to a ')', and the position behind that
-unfoldable pub terms_at : List ℕ → ℕ → At Terms
+unfoldable pub terms_at : List ℕ → ℕ → Option (At Terms)
 terms_at s at = place s (reads (drop at s))
 
-unfoldable pub string_at : List ℕ → ℕ → At (List ℕ)
+unfoldable pub string_at : List ℕ → ℕ → Option (At (List ℕ))
 string_at s at = place s (string (drop at s))
 
-unfoldable pub number_at : List ℕ → ℕ → At ℕ
+unfoldable pub number_at : List ℕ → ℕ → Option (At ℕ)
 number_at s at = place s (number (drop at s))
 
-unfoldable pub mark_at : ℕ → List ℕ → ℕ → At (Unit {0})
-mark_at b s at = place s (mark b (drop at s))
+-- the position alone
+abbrev pub behind : {A : Type 0} → Option (At A) → Option ℕ
+behind m = option_map (λ a. a.next) m
 
--- What an answer of the code says, a value and the position behind it: a position past the end of the text says that nothing was found.
-abbrev pub seen : {A : Type 0} → List ℕ → A → ℕ → At A
-seen s v p = cond (leb p (length s)) (ends v p) fails
+unfoldable pub mark_at : ℕ → List ℕ → ℕ → Option ℕ
+mark_at b s at = behind (place s (mark b (drop at s)))

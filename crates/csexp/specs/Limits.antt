@@ -1,12 +1,10 @@
 -- The limits of a text: how many bytes it has at most, and how many lists stand inside one another.
-use Rattle.std.specs.Prelude.{Bool, false, cond, List, [], ◌∷◌, ℕ, ◌-◌, length, leb}
-use Rattle.std.specs.Prelude.{None as none, Some as some}
+use Rattle.std.specs.Prelude.{Bool, false, cond, List, [], ◌∷◌, ℕ, ◌-◌, length, leb, Option, None as none, Some as some, option_and_then}
 use Rattle.csexp.specs.Term.{Term, levels, levels_in}
 use Rattle.csexp.specs.Read.{Got, no, got, read}
-use Rattle.csexp.specs.At.{At, fails, ends, term_at}
+use Rattle.csexp.specs.At.{behind}
 use Rattle.csexp.specs.Decode.{Decoder, Fields}
-use Rattle.csexp.specs.Answers.{decode}
-use Rattle.std.specs.Prelude.{Option, Some as Whole, None as Broken}
+use Rattle.csexp.specs.Answers.{value_at}
 
 -- where a term ends, or that there is none within the limits
 abbrev pub Ending : Type 0
@@ -27,12 +25,11 @@ unfoldable pub shallows : ℕ → Fields (Unit {0})
 shallows n ts = cond (leb (levels_in ts) n) (some tt) none
 
 -- the first term from `at` on, if it has at most so many bytes and levels
-abbrev pub ending : ℕ → ℕ → At (Unit {0}) → Ending
-ending bytes at fails = Broken
-ending bytes at (ends x p) = cond (leb (p - at) bytes) (Whole p) Broken
+abbrev pub ending : ℕ → ℕ → Option ℕ → Ending
+ending bytes at m = option_and_then (λ p. cond (leb (p - at) bytes) (some p) none) m
 
 unfoldable pub ending_of : ℕ → ℕ → List ℕ → ℕ → Ending
-ending_of bytes n s at = ending bytes at (decode (shallow n) (term_at s at))
+ending_of bytes n s at = ending bytes at (behind (value_at (shallow n) s at))
 
 -- the text is one term of at most n levels, and nothing is left
 abbrev pub all_of : ℕ → Got Term → Bool

@@ -1,23 +1,20 @@
 -- What a writer leaves in a slice. A writer takes a position, stores its bytes from there on as far as the slice reaches, and hands back
 -- the position behind them, whether they fitted or not: past the end it only counts.
-use Rattle.std.specs.Prelude.{◌≡◌, List, [], ◌∷◌, ◌++◌, ℕ, zero, suc, ◌+◌, ◌≤◌, min, length}
+use Rattle.std.specs.Prelude.{◌≡◌, List, [], ◌∷◌, ◌++◌, ℕ, ◌+◌, min, set}
 use Rattle.csexp.specs.Term.{Term, atom, Terms, write, writes}
-
--- s with bs from `at` on, as far as s reaches
-unfoldable pub over : List ℕ → ℕ → List ℕ → List ℕ
-over [] at bs = []
-over (x ∷ s) (suc at) bs = x ∷ over s at bs
-over (x ∷ s) zero [] = x ∷ s
-over (x ∷ s) zero (b ∷ bs) = b ∷ over s zero bs
 
 -- the largest position; a count stops there, and no slice is that long
 abbrev pub top : ℕ
 top = 18446744073709551615
 
+-- A slice and a position, with the bytes put one by one: each is stored if the slice has that place (`set` past the end changes nothing).
+unfoldable pub put : List ℕ → List ℕ × ℕ → List ℕ × ℕ
+put [] x = x
+put (b ∷ bs) (s, at) = put bs (set s at b, min (at + 1) top)
+
 -- The bytes bs were put into s at `at`: s₂ is left, and p is the position behind them.
 pub record Puts (bs s : List ℕ) (at : ℕ) (s₂ : List ℕ) (p : ℕ) : Type 0 where
-  pub bytes : length s ≤ top → s₂ ≡ over s at bs
-  pub next : p ≡ min (at + length bs) top
+  pub exactly : (s₂, p) ≡ put bs (s, at)
 
 -- the same of a term
 pub record Writes (t : Term) (s : List ℕ) (at : ℕ) (s₂ : List ℕ) (p : ℕ) : Type 0 where

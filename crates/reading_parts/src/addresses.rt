@@ -1,111 +1,67 @@
 // Addresses: 000 Definitions 12 and 13.
+#![tactic(auto, using(csexp::proofs::Steps::readers))]
+
 ghost use Rattle.csexp.specs.Answers.{Reads};
 ghost use Rattle.shapes.specs.Items.{protocol_of, fragment_of, url_of, origin_of};
 
 use crate::numbers::short_number;
-use csexp::{empty_list, mark, number, optional, word};
+use csexp::{At, empty_list, mark, means, number, optional, word};
 use types::{Fragment, Host, Origin, Parameters, Path, Protocol, Url};
 
-#[derive(Clone, Copy)]
-pub struct ProtocolAt {
-    pub value: Protocol,
-    pub next: usize,
-}
-
 // 1:P or 1:S
-pub fn read_protocol(s: &[u8], at: usize) -> ProtocolAt
-    ensures { Reads protocol_of s.now at result.value result.next }
+pub fn read_protocol(s: &[u8], at: usize) -> Option<At<Protocol>>
+    ensures { Reads protocol_of s.now at result }
 {
-    let p = word(s, at, b"P");
-    if p <= s.len() {
-        return ProtocolAt {
-            value: Protocol::Plain,
-            next: p,
-        };
-    }
-    let q = word(s, at, b"S");
-    ProtocolAt {
-        value: Protocol::Secure,
-        next: q,
-    }
-}
-
-#[derive(Clone, Copy)]
-pub struct FragmentAt {
-    pub value: Fragment,
-    pub next: usize,
+    means(s, at, b"P", Protocol::Plain).or_else(|| means(s, at, b"S", Protocol::Secure))
 }
 
 // () or a number from 1 on
-pub fn read_fragment(s: &[u8], at: usize) -> FragmentAt
-    ensures { Reads fragment_of s.now at result.value result.next }
+pub fn read_fragment(s: &[u8], at: usize) -> Option<At<Fragment>>
+    ensures { Reads fragment_of s.now at result }
 {
-    let e = empty_list(s, at);
-    if e <= s.len() {
-        return FragmentAt {
-            value: None,
-            next: e,
-        };
+    if let Some(next) = empty_list(s, at) {
+        return Some(At { value: None, next });
     }
-    let n = number(s, at, 1, 4294967295);
-    FragmentAt {
-        value: Some(n.value),
-        next: n.next,
-    }
-}
-
-#[derive(Clone, Copy)]
-pub struct UrlAt {
-    pub value: Url,
-    pub next: usize,
+    Some(number(s, at, 1, u32::MAX)?.map(Some))
 }
 
 // (3:URL protocol host path parameters fragment)
-pub fn read_url(s: &[u8], at: usize) -> UrlAt
-    ensures { Reads url_of s.now at result.value result.next }
+pub fn read_url(s: &[u8], at: usize) -> Option<At<Url>>
+    ensures { Reads url_of s.now at result }
 {
-    let a = mark(s, at, b'(');
-    let b = word(s, a, b"URL");
-    let scheme = read_protocol(s, b);
-    let host = short_number(s, scheme.next, 1, 65535);
-    let path = short_number(s, host.next, 0, 65535);
-    let parameters = optional(s, path.next, 4294967295);
-    let place = read_fragment(s, parameters.next);
-    let e = mark(s, place.next, b')');
-    let protocol = scheme.value;
-    let fragment = place.value;
-    UrlAt {
+    let a = mark(s, at, b'(')?;
+    let b = word(s, a, b"URL")?;
+    let protocol = read_protocol(s, b)?;
+    let host = short_number(s, protocol.next, 1, u16::MAX)?;
+    let path = short_number(s, host.next, 0, u16::MAX)?;
+    let parameters = optional(s, path.next, u32::MAX)?;
+    let fragment = read_fragment(s, parameters.next)?;
+    let next = mark(s, fragment.next, b')')?;
+    Some(At {
         value: Url {
-            protocol,
+            protocol: protocol.value,
             host: Host(host.value),
             path: Path(path.value),
             parameters: Parameters(parameters.value),
-            fragment,
+            fragment: fragment.value,
         },
-        next: e,
-    }
-}
-
-#[derive(Clone, Copy)]
-pub struct OriginAt {
-    pub value: Origin,
-    pub next: usize,
+        next,
+    })
 }
 
 // (host protocol)
-pub fn read_origin(s: &[u8], at: usize) -> OriginAt
-    ensures { Reads origin_of s.now at result.value result.next }
+pub fn read_origin(s: &[u8], at: usize) -> Option<At<Origin>>
+    ensures { Reads origin_of s.now at result }
 {
-    let a = mark(s, at, b'(');
-    let host = short_number(s, a, 1, 65535);
-    let scheme = read_protocol(s, host.next);
-    let e = mark(s, scheme.next, b')');
-    let protocol = scheme.value;
-    OriginAt {
+    let a = mark(s, at, b'(')?;
+    let host = short_number(s, a, 1, u16::MAX)?;
+    let protocol = read_protocol(s, host.next)?;
+    let next = mark(s, protocol.next, b')')?;
+    Some(At {
         value: Origin {
             host: Host(host.value),
-            protocol,
+            protocol: protocol.value,
         },
-        next: e,
-    }
+        next,
+    })
 }

@@ -4,13 +4,10 @@ use std::env::FillError;
 use std::rt::Env;
 
 fn number_in(s: &[u8]) -> u32 {
-    let read = decimal(s, 0, 4294967295);
-    let value = read.value;
-    let next = read.next;
-    if next == s.len() {
-        return value as u32;
+    match decimal(s, 0, u32::MAX as usize) {
+        Some(n) if n.next == s.len() => n.value as u32,
+        _ => 0,
     }
-    0
 }
 
 // Whether there is a word at a place. The first word is the program's own name.

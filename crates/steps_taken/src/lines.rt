@@ -24,13 +24,21 @@ fn behind(line: &[u8], at: usize) -> usize
     if at < line.len() { at + 1 } else { line.len() }
 }
 
+// The number at a place, and the place behind the space that follows it; where there is none, 0 and the end.
+fn number(line: &[u8], at: usize, most: usize) -> (usize, usize)
+    ensures { (result.0 ≤ most) × (result.1 ≤ length line.now) }
+{
+    match decimal(line, at, most) {
+        Some(n) => (n.value, behind(line, n.next)),
+        None => (0, line.len()),
+    }
+}
+
 fn step_line(rt: &impl Print, line: &[u8], m: &mut Memory) -> io::Result<()> {
-    let size = decimal(line, 0, LONGEST);
-    let place = decimal(line, behind(line, size.next), 18446744073709551615);
-    let name = behind(line, place.next);
+    let (room, after) = number(line, 0, LONGEST);
+    let (place, name) = number(line, after, usize::MAX);
     let end = find(line, name, b' ');
     let text = behind(line, end);
-    let room = size.value;
     let mut buffer = dots();
     take(
         rt,
@@ -38,19 +46,19 @@ fn step_line(rt: &impl Print, line: &[u8], m: &mut Memory) -> io::Result<()> {
         &line[text..],
         m,
         &mut buffer[..room],
-        place.value,
+        place,
     )
 }
 
 fn put_line(line: &[u8], m: &mut Memory) {
-    let place = decimal(line, 4, 10239);
-    let n = decimal(line, behind(line, place.next), 4294967295);
-    put(m, place.value, n.value as u32);
+    let (place, after) = number(line, 4, 10239);
+    let (n, _) = number(line, after, u32::MAX as usize);
+    put(m, place, n as u32);
 }
 
 fn any_line(line: &[u8], m: &mut Memory) {
-    let bound = decimal(line, 4, 4294967295);
-    fill(m, bound.value as u32);
+    let (bound, _) = number(line, 4, u32::MAX as usize);
+    fill(m, bound as u32);
 }
 
 // A line that makes a memory is told as it stands. One that makes none is told to be so, and leaves the memory as it was.

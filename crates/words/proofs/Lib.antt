@@ -1,3 +1,2 @@
--- The laws of the table of methods, and of reading by it.
-pub mod Rows
+-- The laws of reading by the table of methods.
 pub mod Attempts

@@ -1,3 +1,2 @@
--- What a row of the code's table says, and what a status number says.
-pub mod Spelt
+-- What a status number says.
 pub mod Status

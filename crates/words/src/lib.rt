@@ -1,9 +1,7 @@
 // The words of HTTP that readers and writers share (01 "The text").
 #![tactic(auto)]
 
-pub mod spellings; // one table of how the methods are spelt
-pub mod methods; // a method, read by that table
+pub mod methods; // one table of how the methods are spelt, and a method read by it
 pub mod statuses; // which numbers are statuses, and which of them redirect
 
-pub use methods::{MethodAt, read_method};
-pub use spellings::{Spelling, spelling_at, spelling_of};
+pub use methods::{read_method, spelling_at, spelling_of};

@@ -1,55 +1,49 @@
-// A method, read by trying the rows of the table one after the other.
-ghost use Rattle.std.specs.Prelude.{◌≡◌};
+// "Methods are the eight of RFC 9110" (01 "The text"): how each is spelt, and a method read by trying one after the other.
+ghost use Rattle.std.specs.Prelude.{[], ◌≡◌, get_or};
 ghost use Rattle.csexp.specs.Answers.{Reads};
-ghost use Rattle.shapes.specs.Words.{method_in};
+ghost use Rattle.shapes.specs.Words.{spellings, spelling};
 ghost use Rattle.shapes.specs.Items.{method_of};
 
-use crate::spellings::spelling_at;
-use csexp::{LOST, word};
+use csexp::{At, means};
 use types::Method;
 
-// The method of a row; past the table it is that of the last row.
-fn method_at(i: usize) -> Method
-    ensures { result ≡ method_in i }
+const METHODS: [(Method, &[u8]); 8] = [
+    (Method::Get, b"GET"),
+    (Method::Head, b"HEAD"),
+    (Method::Post, b"POST"),
+    (Method::Put, b"PUT"),
+    (Method::Delete, b"DELETE"),
+    (Method::Connect, b"CONNECT"),
+    (Method::Options, b"OPTIONS"),
+    (Method::Trace, b"TRACE"),
+];
+
+// What the table says of row i: no bytes past its end.
+pub fn spelling_at(i: usize) -> &'static [u8]
+    ensures { result.now ≡ get_or spellings i [] }
 {
-    if 6 < i {
-        return Method::Trace;
-    }
-    match i {
-        0 => Method::Get,
-        1 => Method::Head,
-        2 => Method::Post,
-        3 => Method::Put,
-        4 => Method::Delete,
-        5 => Method::Connect,
-        _ => Method::Options,
+    match METHODS.get(i) {
+        Some((_, spelling)) => spelling,
+        None => b"",
     }
 }
 
-#[derive(Clone, Copy)]
-pub struct MethodAt {
-    pub value: Method,
-    pub next: usize,
+// How a method is spelt: its row is its place in the table.
+pub fn spelling_of(m: Method) -> &'static [u8]
+    ensures { result.now ≡ spelling m }
+{
+    spelling_at(m as usize)
 }
 
 // The atom that spells a method.
-pub fn read_method(s: &[u8], at: usize) -> MethodAt
-    ensures { Reads method_of s.now at result.value result.next }
+#[tactic(auto, using(crate::proofs::Attempts::rows))]
+pub fn read_method(s: &[u8], at: usize) -> Option<At<Method>>
+    ensures { Reads method_of s.now at result }
 {
-    let mut i = 0;
-    while i < 8 {
-        let row = spelling_at(i);
-        let bytes = row.bytes;
-        let n = row.length;
-        let p = word(s, at, &bytes[..n]);
-        if p <= s.len() {
-            let m = method_at(i);
-            return MethodAt { value: m, next: p };
+    for (method, spelling) in METHODS {
+        if let Some(found) = means(s, at, spelling, method) {
+            return Some(found);
         }
-        i += 1;
     }
-    MethodAt {
-        value: Method::Get,
-        next: LOST,
-    }
+    None
 }

@@ -2,22 +2,19 @@
 ghost use Rattle.std.specs.Prelude.{◌≡◌};
 ghost use Rattle.words.specs.Status.{status_kind};
 
-#[derive(Clone, Copy)]
+#[derive(Clone, Copy, PartialEq, Eq)]
 pub enum StatusKind {
     Redirects,
     Other,
-    NoStatus,
 }
 
-// What a status number says.
-pub fn status_kind(n: u16) -> StatusKind
+// What a status number says, if it is one.
+pub fn status_kind(n: u16) -> Option<StatusKind>
     ensures { result ≡ status_kind n }
 {
     match n {
-        303 | 307 => StatusKind::Redirects,
-        100..=302 => StatusKind::Other,
-        304..=306 => StatusKind::Other,
-        308..=505 => StatusKind::Other,
-        _ => StatusKind::NoStatus,
+        303 | 307 => Some(StatusKind::Redirects),
+        100..=505 => Some(StatusKind::Other),
+        _ => None,
     }
 }

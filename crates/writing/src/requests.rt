@@ -11,10 +11,7 @@ use words::spelling_of;
 pub fn write_method(out: &mut [u8], at: usize, method: Method) -> usize
     ensures { Writes (method_term method) out.old at out.new result }
 {
-    let row = spelling_of(method);
-    let bytes = row.bytes;
-    let n = row.length;
-    word(out, at, &bytes[..n])
+    word(out, at, spelling_of(method))
 }
 
 // (7:HTTPReq (7:request number) method host path parameters headers body)

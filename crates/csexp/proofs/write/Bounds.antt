@@ -1,20 +1,20 @@
 -- How long a text is at most: a law for each part of an encoder. The bounds of the parts add up to the whole's by computing.
 --     short-list · short-nil · short-cons · short-joins · short-each · short-word · short-number · short_optional · short-labelled
 --     short-less · shorts_less
-use mathlib.Core.Path.{◌≡◌, refl, ap, ◌∙◌}
+use mathlib.Core.Path.{◌≡◌, refl, ap}
 use mathlib.Core.Bool.{Bool, true, false, cond}
 use mathlib.Core.List.{List, [], ◌∷◌}
-use Prim.Native.Nat.{ℕ, zero, suc, ◌+◌, ◌*◌, ◌/◌, ◌%◌, ◌≤◌, ◌<◌}
+use Prim.Native.Nat.{ℕ, zero, suc, ◌+◌, ◌*◌, ◌/◌, ◌≤◌, ◌<◌}
 use native.Mathlib.Nat.{suc-mul}
 use native.Mathlib.Omega.{arith}
 use lib.ListN.{length, length-append}
 use lib.Dec.{T, leb, ltb, eqb, lit≤}
-use borrow.Author.Tests.{ltb-true, ltb-false}
+use borrow.Author.Tests.{ltb-false}
 use Rattle.sorted.specs.Table.{All}
 use Rattle.csexp.specs.Term.{Term, atom, list, Terms, nil, cons, decimal, write, writes}
 use Rattle.csexp.proofs.Numbers.{decimal-small}
 use Rattle.csexp.specs.Encode.{number_term, optional_term, each, labelled, joins}
-use Rattle.csexp.proofs.write.Leaves.{decimal-split}
+use Rattle.csexp.proofs.write.Leaves.{decimal_length}
 
 -- the text of t, and that of the terms ts, has at most k bytes
 pub record Short (t : Term) (k : ℕ) : Type 0 where
@@ -65,15 +65,12 @@ ten (suc k) = 10 * ten k
 
 decimal-short : (k n : ℕ) → n < ten (suc k) → length (decimal n) ≤ suc k
 decimal-short zero n h = let e = ap length (decimal-small n (omega arith)) in omega arith
-decimal-short (suc k) n h = go (ltb n 10) refl (λ l. decimal-short k (n / 10) l)
+decimal-short (suc k) n h = go (ltb n 10) refl (decimal_length n) (λ l. decimal-short k (n / 10) l)
   where
-    go : (c : Bool) → ltb n 10 ≡ c → (n / 10 < ten (suc k) → length (decimal (n / 10)) ≤ suc k) → length (decimal n) ≤ suc (suc k)
-    go true e f' = let l = ltb-true n 10 e in let f = ap length (decimal-small n l) in omega arith
-    go false e less =
-        let l : 10 ≤ n = ltb-false n 10 e in
-        let d = ap length (decimal-split n l) ∙ length-append (decimal (n / 10)) ((48 + n % 10) ∷ []) in
-        let r = less (omega arith) in
-        omega arith
+    go : (c : Bool) → ltb n 10 ≡ c → length (decimal n) ≡ cond c 1 (length (decimal (n / 10)) + 1)
+        → (n / 10 < ten (suc k) → length (decimal (n / 10)) ≤ suc k) → length (decimal n) ≤ suc (suc k)
+    go true e d less = omega arith
+    go false e d less = let l : 10 ≤ n = ltb-false n 10 e in let r = less (omega arith) in omega arith
 
 pub short-number : {n : ℕ} → n ≤ 4294967295 → Short (number_term n) 13
 unfolding number_term write

@@ -7,33 +7,78 @@ use mathlib.Core.Path.{◌≡◌, refl, sym, ap, subst, ◌∙◌}
 use mathlib.Core.List.{List, [], ◌∷◌, ◌++◌, append_assoc, append-nil}
 use Prim.Native.Nat.{ℕ, zero, suc, ◌+◌, ◌≤◌, ◌<◌}
 use native.Mathlib.Omega.{arith}
-use lib.ListN.{length, get_or, take, length-append}
-use lib.Seq.{take_all}
+use lib.ListN.{length, get_or, take}
+use lib.Seq.{take_all, take-suc}
 use native.Mathlib.Numerals.{add-one}
-use Rattle.csexp.specs.Term.{Term, atom, list, Terms, nil, cons, write, writes}
+use Rattle.csexp.specs.Term.{Term, atom, list, Terms, nil, cons, decimal, write, writes}
 use Rattle.csexp.specs.Encode.{each, joins}
-use Rattle.csexp.specs.Puts.{over, top, Puts, Writes, Items, Rest, Opens}
-use Rattle.csexp.proofs.write.Over.{over_none, over_append, length_over, over-stop}
-
--- nothing
-pub puts_none : (s : List ℕ) (at : ℕ) → at ≤ top → Puts [] s at s at
-puts_none s at h = record { bytes = λ _. sym (over_none s at); next = omega arith }
+use Rattle.csexp.specs.Puts.{top, put, Puts, Writes, Items, Rest, Opens}
+use Rattle.csexp.proofs.write.Over.{put_append}
 
 writes-joins : (ts us : Terms) → writes (joins ts us) ≡ writes ts ++ writes us
 unfolding write joins
 writes-joins nil us = refl
 writes-joins (cons t ts) us = ap (λ (l : List ℕ). write t ++ l) (writes-joins ts us) ∙ sym (append_assoc (write t) (writes ts) (writes us))
 
+-- what is left of a list: its terms, and its ')'
+module _ (x : List ℕ × ℕ) where
+  pub put_list : (ts : Terms) → put (write (list ts)) x ≡ put (writes ts ++ (41 ∷ [])) (put (40 ∷ []) x)
+  unfolding write
+  put_list ts = put_append (40 ∷ []) (writes ts ++ (41 ∷ [])) x
+
+  pub put_first : (t : Term) (ts : Terms) → put (writes (cons t ts) ++ (41 ∷ [])) x ≡ put (writes ts ++ (41 ∷ [])) (put (write t) x)
+  unfolding write
+  put_first t ts = ap (λ (l : List ℕ). put l x) (append_assoc (write t) (writes ts) (41 ∷ [])) ∙ put_append (write t) (writes ts ++ (41 ∷ [])) x
+
+  pub put_end : put (writes nil ++ (41 ∷ [])) x ≡ put (41 ∷ []) x
+  unfolding write
+  put_end = refl
+
+  pub put_open : (w : List ℕ) → put (40 ∷ write (atom w)) x ≡ put (write (atom w)) (put (40 ∷ []) x)
+  put_open w = put_append (40 ∷ []) (write (atom w)) x
+
+  pub put_atom : (bs : List ℕ) → put (write (atom bs)) x ≡ put bs (put (58 ∷ []) (put (decimal (length bs)) x))
+  unfolding write
+  put_atom bs = put_append (decimal (length bs)) (58 ∷ bs) x ∙ put_append (58 ∷ []) bs (put (decimal (length bs)) x)
+
+  pub put_terms : (t : Term) (ts : Terms) → put (writes (cons t ts)) x ≡ put (writes ts) (put (write t) x)
+  unfolding write
+  put_terms t ts = put_append (write t) (writes ts) x
+
+  pub put_no_terms : put (writes nil) x ≡ x
+  unfolding write put
+  put_no_terms = refl
+
+  pub put_both : (ts us : Terms) → put (writes (joins ts us)) x ≡ put (writes us) (put (writes ts) x)
+  put_both ts us = ap (λ (l : List ℕ). put l x) (writes-joins ts us) ∙ put_append (writes ts) (writes us) x
+
+  pub put_spliced : (ts us : Terms) → put (writes (joins ts us) ++ (41 ∷ [])) x ≡ put (writes us ++ (41 ∷ [])) (put (writes ts) x)
+  put_spliced ts us =
+      ap (λ (l : List ℕ). put (l ++ (41 ∷ [])) x) (writes-joins ts us)
+      ∙ ap (λ (l : List ℕ). put l x) (append_assoc (writes ts) (writes us) (41 ∷ []))
+      ∙ put_append (writes ts) (writes us ++ (41 ∷ [])) x
+
+  -- one byte more of some, and all of them
+  pub put_byte : (w : List ℕ) (i : ℕ) → i < length w → put (take (i + 1) w) x ≡ put (get_or w i 0 ∷ []) (put (take i w) x)
+  put_byte w i h =
+      ap (λ (l : List ℕ). put l x) (ap (λ (n : ℕ). take n w) (add-one i) ∙ take-suc w i 0 h)
+      ∙ put_append (take i w) (get_or w i 0 ∷ []) x
+
+  pub put_no_bytes : put [] x ≡ x
+  unfolding put
+  put_no_bytes = refl
+
+-- what the proofs of writers go by, `using(csexp::proofs::write::Steps::writers)`: a compound writer needs no proof file
+pub ruleset writers = (put_list, put_first, put_end, put_open, put_atom, put_terms, put_no_terms, put_both, put_spliced, put_byte, put_no_bytes)
+
+-- The same as a law for each step: what the calls ensure makes what the caller ensures.
+pub puts_none : (s : List ℕ) (at : ℕ) → Puts [] s at s at
+unfolding put
+puts_none s at = record { exactly = refl }
+
 -- one part behind another
 pub puts_then : {a b s s₁ s₂ : List ℕ} {at p q : ℕ} → Puts a s at s₁ p → Puts b s₁ p s₂ q → Puts (a ++ b) s at s₂ q
-puts_then {a} {b} {s} {s₁} {s₂} {at} {p} {q} u v = record {
-  bytes = λ h.
-      let e : s₁ ≡ over s at a = u.bytes h in
-      let l : length s₁ ≡ length s = ap length e ∙ length_over s at a in
-      v.bytes (omega arith) ∙ ap (λ (n : ℕ). over s₁ n b) u.next ∙ over-stop s₁ (at + length a) b (omega arith)
-      ∙ ap (λ (x : List ℕ). over x (at + length a) b) e ∙ sym (over_append s at a b);
-  next = let x = u.next in let y = v.next in let l = length-append a b in omega arith;
-}
+puts_then {a} {b} {s} {s₁} {s₂} {at} {p} {q} u v = record { exactly = v.exactly ∙ ap (put b) u.exactly ∙ sym (put_append a b (s, at)) }
 
 -- the same bytes, said otherwise
 pub puts_as : {a b s s₂ : List ℕ} {at p : ℕ} → a ≡ b → Puts a s at s₂ p → Puts b s at s₂ p
@@ -71,7 +116,7 @@ both {ts} {us} u v = record { puts = puts_as (sym (writes-joins ts us)) (puts_th
 -- no term, and one
 pub absent : (s : List ℕ) (at : ℕ) → at ≤ top → Items nil s at s at
 unfolding write
-absent s at h = record { puts = puts_none s at h }
+absent s at h = record { puts = puts_none s at }
 
 pub single : {t : Term} {s s₂ : List ℕ} {at p : ℕ} → Writes t s at s₂ p → Items (cons t nil) s at s₂ p
 unfolding write

@@ -1,2 +1,0 @@
--- The laws of status numbers.
-pub mod Statuses
