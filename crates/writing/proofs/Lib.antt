@@ -2,7 +2,6 @@
 pub mod Bounds
 pub mod Held
 pub mod Tops
-pub mod Laws
 pub mod CookieRows
 pub mod Backs
 pub mod Only

@@ -15,17 +15,17 @@ use borrow.Author.Tests.{le-leb}
 use Rattle.csexp.specs.Term.{write}
 use Rattle.csexp.specs.Sent.{Written}
 use Rattle.std.specs.Prelude.{Some as Bytes}
-use Rattle.csexp.specs.Puts.{over, Puts}
+use Rattle.csexp.specs.Puts.{Puts}
+use Rattle.csexp.proofs.write.Over.{puts_next, puts_nowhere}
 use Rattle.csexp.specs.Sent.{Sent}
 use Rattle.shapes.specs.Events.{Message, resolve, unsealed, sealed, event_of, event_text}
 use Rattle.writing.specs.Wrote.{Long, Wrote}
 
 pub counted : {m : Option Message} {s s₂ : List ℕ} {n : ℕ} → length (event_text m) ≤ 4096 → Puts (event_text m) s 0 s₂ n → Long m n
-counted h u = let e = u.next in record { is = omega arith; short = omega arith }
+counted h u = let e = puts_next u (omega arith) in record { is = omega arith; short = omega arith }
 
 pub counts : {m : Option Message} {n : ℕ} → Long m n → Puts (event_text m) [] 0 [] n
-unfolding over
-counts l = record { bytes = λ _. refl; next = let a = l.is in let b = l.short in omega arith }
+counts l = puts_nowhere l.is (let b = l.short in omega arith)
 
 -- an event has at least one byte
 some_bytes : (m : Message) → 0 < length (write (event_of m))

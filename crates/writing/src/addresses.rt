@@ -1,4 +1,6 @@
 // Protocols, fragments, addresses and origins (000 Definitions 12 and 13).
+#![tactic(auto, using(csexp::proofs::write::Steps::writers))]
+
 ghost use Rattle.csexp.specs.Puts.{Writes};
 ghost use Rattle.shapes.specs.Events.{protocol_term, fragment_term, url_term, origin_term};
 

@@ -1,4 +1,6 @@
 // The Cookie header: 01 "Cookie is always there, even empty".
+#![tactic(auto, using(csexp::proofs::write::Steps::writers))]
+
 ghost use Rattle.csexp.specs.Encode.{each};
 ghost use Rattle.csexp.specs.Puts.{Writes, Items};
 ghost use Rattle.types.specs.Lists.{header_pairs};

@@ -1,4 +1,6 @@
 // Questions to the DNS server, and events: 01 "An event is receiver, sender, message; the browser has address 1, its DNS server 2".
+#![tactic(auto, using(csexp::proofs::write::Steps::writers))]
+
 ghost use Rattle.csexp.specs.Puts.{Puts, Writes};
 ghost use Rattle.shapes.specs.Events.{question_term, request_term, sealed_term, event_term, event_of, event_text};
 
@@ -56,7 +58,7 @@ pub fn send_sealed(
 }
 
 // The event that carries a message.
-#[tactic(auto, unfolding(shapes::specs::Events::event_of))]
+#[tactic(auto, using(csexp::proofs::write::Steps::writers), unfolding(shapes::specs::Events::event_of))]
 pub fn write_message(out: &mut [u8], at: usize, message: Message) -> usize
     ensures { Writes (event_of message) out.old at out.new result }
 {

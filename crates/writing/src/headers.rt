@@ -1,4 +1,6 @@
 // The headers of a request: 01 "Request headers stand as Cookie, Origin, Referer".
+#![tactic(auto, using(csexp::proofs::write::Steps::writers))]
+
 ghost use Rattle.shapes.specs.Nouns.{Null, From, Known};
 ghost use Rattle.csexp.specs.Puts.{Writes, Items};
 ghost use Rattle.shapes.specs.Events.{origin_header, referer_header, headers_term};

@@ -1,4 +1,6 @@
 // Requests: 000 Definition 15 (12), and under a key.
+#![tactic(auto, using(csexp::proofs::write::Steps::writers))]
+
 ghost use Rattle.csexp.specs.Puts.{Writes};
 ghost use Rattle.shapes.specs.Events.{method_term, request_term, sealed_term};
 

@@ -1,5 +1,5 @@
 -- A law for each call.
-use Rattle.csexp.proofs.write.Steps.{opened, opened-word, passed, closed, ended}
+use Rattle.csexp.proofs.write.Steps.{opened, opened-word, passed, closed}
 use Rattle.writing.proofs.requests.write_sealed.Goals as goal
 
 pub returns : goal.returns
