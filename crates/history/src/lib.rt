@@ -2,7 +2,7 @@
 // one algorithm with two directions, for triggers and for scripts.
 #![tactic(auto)]
 
-ghost use Rattle.std.specs.Prelude.{◌≡◌, true, []};
+ghost use Rattle.std.specs.Prelude.{◌≡◌, true, [], suc, eqb};
 ghost use Rattle.tables.specs.Rows.{setting_active};
 ghost use Rattle.memory.specs.Rows.{table};
 ghost use Rattle.layouts.specs.Tables.{documents_in};
@@ -38,14 +38,20 @@ pub enum Towards {
     After,
 }
 
+// Whether one place is just behind another.
+fn follows(place: u32, other: u32) -> bool
+    ensures { result ≡ eqb (suc other) place }
+{
+    other < place && place - other == 1
+}
+
 fn beside(m: &Memory, w: WindowNumber, d: Document, q: Towards) -> Option<Document>
     ensures { result ≡ beside q w (table documents_in m.now) d }
 {
-    let other = match q {
-        Towards::Before => d.place.checked_sub(1),
-        Towards::After => d.place.checked_add(1),
-    };
-    Documents::first(m, |e| e.window == w && Some(e.place) == other)
+    match q {
+        Towards::Before => Documents::first(m, |e| e.window == w && follows(d.place, e.place)),
+        Towards::After => Documents::first(m, |e| e.window == w && follows(e.place, d.place)),
+    }
 }
 
 // Line 2: from the place of the active document to that of the document beside it, if there is one.

@@ -11,10 +11,12 @@ ghost use Rattle.wim.specs.Navigable.{opener_of, ancestor_has, navigable_directl
 ghost use Rattle.navigable.specs.First.{first_navigable};
 
 use memory::Memory;
+use rows::Table;
 use types::rows::{Document, Opener};
 use types::{Origin, WindowNumber};
 use walks::STEPS;
 use walks::told::Above;
+use windows::Windows;
 
 fn has_origin(m: &Memory, o: Origin, w: WindowNumber) -> bool
     ensures { result ≡ has_origin o (active_document (table documents_in m.now) w) }
@@ -75,7 +77,7 @@ fn follows_within(n: usize, m: &Memory, o: Origin, w: WindowNumber, v: WindowNum
 pub fn may_navigate(m: &Memory, o: Origin, w: WindowNumber, v: WindowNumber) -> bool
     ensures { result ≡ may_navigate (table windows_in m.now) (table documents_in m.now) o w v }
 {
-    follows_within(windows::size(m) + 1, m, o, w, v)
+    follows_within(Windows::size(m) + 1, m, o, w, v)
 }
 
 // That window, if the document of this window may navigate it, otherwise this window.
@@ -94,8 +96,8 @@ fn mask(m: &Memory, o: Origin, w: WindowNumber) -> u32
     ensures { result ≡ mask_of (may_navigate (table windows_in m.now) (table documents_in m.now) o w) (table windows_in m.now) }
 {
     let mut bits: u32 = 0;
-    for i in (0..windows::size(m)).rev() {
-        let row = windows::row(m, i);
+    for i in (0..Windows::size(m)).rev() {
+        let row = Windows::row(m, i);
         bits = 2 * bits + u32::from(may_navigate(m, o, w, row.number));
     }
     bits
@@ -116,6 +118,7 @@ pub fn navigable_set(m: &Memory, w: WindowNumber) -> u32
 }
 
 // 01: "its size is the count of those bits".
+#[tactic(auto, using(wim::proofs::NavigableMask::navigable_ones))]
 pub fn navigable_size(m: &Memory, w: WindowNumber) -> u32
     ensures { result ≡ navigable_size (table windows_in m.now) (table documents_in m.now) w }
 {

@@ -13,10 +13,13 @@ ghost use Rattle.wim.specs.Walks.{active_document, window_numbered, document_num
 ghost use Rattle.wim.specs.Program.{is_top, when, with_origin, listens};
 ghost use Rattle.walks.specs.Told.{standing};
 
+use documents::Documents;
 use memory::Memory;
+use rows::Table;
 use told::Above;
 use types::rows::{Document, Window};
 use types::{DocumentNumber, DocumentNumbers, Origin, WindowNumber};
+use windows::Windows;
 
 // Parents are followed upward at most so often (01 "What a step does").
 pub const STEPS: u32 = 32;
@@ -33,22 +36,20 @@ pub fn origin_of(d: Document) -> Origin
 pub fn active_document(m: &Memory, w: WindowNumber) -> Option<Document>
     ensures { result ≡ active_document (table documents_in m.now) w }
 {
-    let f = documents::first(m, documents::Which::ActiveIn(w));
-    f.found.then_some(f.row)
+    Documents::first(m, |d| d.window == w && d.active)
 }
 
 pub fn numbered(m: &Memory, n: DocumentNumber) -> Option<Document>
     ensures { result ≡ document_numbered (table documents_in m.now) n }
 {
-    let f = documents::first(m, documents::Which::NumberIs(n));
-    f.found.then_some(f.row)
+    Documents::first(m, |d| d.number == n)
 }
 
+#[tactic(auto, unfolding(wim::specs::Walks::window_numbered))]
 pub fn window_numbered(m: &Memory, w: WindowNumber) -> Option<Window>
     ensures { result ≡ window_numbered (table windows_in m.now) w }
 {
-    let f = windows::first(m, windows::Which::KeyIs(w));
-    f.found.then_some(f.row)
+    Windows::get(m, w)
 }
 
 // Whether there is a top-level window with this number.
@@ -136,9 +137,10 @@ fn under_within(n: u32, m: &Memory, gone: DocumentNumbers, w: WindowNumber) -> b
         return false;
     }
     match above(m, w) {
-        Above::HeldBy(d) => labels::one_of(d.number, gone)
-            || under_within(n - 1, m, gone, d.window),
-        Above::Topmost | Above::Missing => false,
+        Above::Missing | Above::Topmost => false,
+        Above::HeldBy(d) => {
+            labels::one_of(d.number, gone) || under_within(n - 1, m, gone, d.window)
+        }
     }
 }
 

@@ -1,8 +1,8 @@
-use mathlib.Core.Path.{sym, ◌∙◌}
+-- The closure asks of a row what the definition asks.
+use Rattle.std.proofs.Common.{rules}
 use Rattle.wim.specs.Walks.{document_numbered}
-use Rattle.walks.proofs.Temp.{same}
 use Rattle.walks.proofs.numbered.Goals as goal
 
 pub returns : goal.returns
 unfolding document_numbered
-returns c = c.then_some.ensures ∙ same _ _ ∙ c.first-f.ensures
+returns c = c.first.ensures _ (λ r b h. search rules)

@@ -1,8 +1,0 @@
-use mathlib.Core.Path.{sym, ◌∙◌}
-use Rattle.wim.specs.Walks.{window_numbered}
-use Rattle.walks.proofs.Temp.{same}
-use Rattle.walks.proofs.window_numbered.Goals as goal
-
-pub returns : goal.returns
-unfolding window_numbered
-returns c = c.then_some.ensures ∙ same _ _ ∙ c.first-f.ensures
