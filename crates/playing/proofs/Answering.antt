@@ -24,8 +24,7 @@ use Rattle.wim.specs.Step.{missing_number, refusal_number, verdict_number, Brows
 use Rattle.wim.specs.Run.{event_line, line, line_of, performed, after}
 use Rattle.wim.specs.Wire.{Returned, refusing, put_into, returning, rehearsing, rehearse}
 use Rattle.browser.specs.View.{browser}
-use Rattle.rehearsal.specs.declared.telling.Rehearsed.{Rehearsed}
-use Rattle.rehearsal.specs.Rehearses.{saying, Short, Rehearses}
+use Rattle.rehearsal.specs.Rehearses.{Rehearsed, verdict_of, count_of, saying, Short, Rehearses}
 use Rattle.playing.specs.declared.looking.Halt.TheVariants.{Stopped}
 use Rattle.playing.specs.Lines.{unwritten, line_bytes, last_line, Adds, Answered}
 use Rattle.playing.specs.Turns.{Turns}
@@ -124,10 +123,10 @@ module _ (text m out : List ℕ) (at : ℕ) (r : Rehearsed) (n out₁ : List ℕ
   unfolding rehearse
   told = u.tells ∙ returning_is (item_in text) (browser m) out at
 
-  pub count-short : r.count ≤ 4096
+  pub count-short : count_of r ≤ 4096
   count-short = let few = few_bytes (browser m) out at (omega arith) (performed (item_in text) (browser m)) u.short in let e = ap (λ (x : Returned). x.count) told in omega arith
 
-  pub turned : {k : ℕ} → k ≡ verdict_number r.verdict → {out₂ : List ℕ} {p : ℕ} → Answered r.count k out₁ at out₂ p → {out₃ : List ℕ} {q : ℕ} → Adds (10 ∷ []) out₂ p out₃ q
+  pub turned : {k : ℕ} → k ≡ verdict_number (verdict_of r) → {out₂ : List ℕ} {p : ℕ} → Answered (count_of r) k out₁ at out₂ p → {out₃ : List ℕ} {q : ℕ} → Adds (10 ∷ []) out₂ p out₃ q
       → Turns (performed (item_in text) (browser m)) (browser m) out at out₃ (browser n) q
   turned e a v =
       let l = lined (browser m) out at (omega arith) (performed (item_in text) (browser m)) u.short told e a in

@@ -16,7 +16,7 @@ use Rattle.csexp.specs.Limits.{item_bytes, item_levels, ending_of}
 use Rattle.sorted.proofs.Never.{never}
 use Rattle.playing.specs.declared.looking.Halt.{Halt}
 use Rattle.playing.specs.declared.looking.Halt.TheVariants.{Over, Stopped, Hungry, Crowded}
-use Rattle.playing.specs.declared.looking.Next.TheVariants.{Item, Nothing}
+use Rattle.std.specs.Prelude.{Ok as Item, Err as Nothing}
 use Rattle.playing.specs.Lines.{line_bytes}
 use Rattle.playing.specs.Portions.{unended, first_of, next_in}
 
