@@ -26,9 +26,9 @@ pub enum Refusal {
 }
 
 impl From<Missing> for Refusal {
-    fn from(what: Missing) -> Refusal
-        ensures { result ≡ Lacking what }
-    {
+    ghost from_gives = { λ what why. why ≡ Lacking what };
+
+    fn from(what: Missing) -> Refusal {
         Refusal::Lacking(what)
     }
 }
