@@ -15,7 +15,7 @@ use Rattle.csexp.specs.Term.{Term, list, Terms, nil, cons, write}
 use Rattle.csexp.specs.Encode.{number_term, labelled}
 use Rattle.csexp.specs.Sent.{Written, Sent}
 use Rattle.std.specs.Prelude.{Ok, Err}
-use Rattle.core.specs.Option.{ok_or}
+use Rattle.std.specs.Prelude.{ok_or}
 use Rattle.tables.specs.Tables.{windows, documents, local_storage, session_storage, Tables}
 use Rattle.tables.specs.Rows.{origin_of}
 use Rattle.wim.specs.Nouns.{WindowNumber, Origin, Top, Document, Missing, Lacking, NoRoom, Closed}
