@@ -1,10 +1,11 @@
 -- The line of an item, by what its step told.
---     verdict-small · count-short     the numbers of verdicts have one digit, and the bytes of an event have room
+--     told-count · count-short        the bytes of an event, which have room
 --     turned                          the browser behind the item, and its line
 use mathlib.Core.Path.{◌≡◌, refl, sym, ap, subst, ◌∙◌}
 use mathlib.Core.Bool.{Bool, cond}
 use mathlib.Core.List.{List, [], ◌∷◌}
-use Rattle.std.specs.Prelude.{None as none, Some as some}
+use Rattle.std.specs.Prelude.{None as none, Some as some, Ok, Err}
+use Rattle.core.specs.Result.{result_unwrap_or}
 use Prim.Native.Nat.{ℕ, ◌+◌, ◌≤◌, ◌<◌}
 use native.Mathlib.Omega.{arith}
 use borrow.Author.Tests.{le-leb, eq-eqb, ne_eqb}
@@ -52,9 +53,10 @@ refusal-digit Full = record { positive = omega arith; small = omega arith }
 refusal-digit NoRoom = record { positive = omega arith; small = omega arith }
 refusal-digit Closed = record { positive = omega arith; small = omega arith }
 
-pub verdict-small : (v : Verdict) → verdict_number v ≤ 8
-verdict-small Accepted = omega arith
-verdict-small (Refused why) = (refusal-digit why).small
+-- what a step tells to C and to the player: 0 bytes at a refusal
+pub told-count : (r : Rehearsed) → result_unwrap_or r 0 ≡ count_of r
+told-count (Ok n) = refl
+told-count (Err why) = refl
 
 -- where a refusal's number is written, that is its line
 refused-line : (why : Refusal) (n : ℕ) → n ≡ refusal_number why → unwritten n ≡ decimal (refusal_number why)
