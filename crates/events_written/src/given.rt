@@ -1,20 +1,20 @@
 // Requests and addresses to send.
 use types::cookies::{CookieName, CookieValue, Jar, Pair};
 use types::{
-    Address, Data, DnsNumber, Host, KeyNumber, Method, OriginHeader, Parameters, Path, Request,
-    RequestNumber, Sent,
+    Address, Data, DnsNumber, Host, KeyNumber, Message, Method, OriginHeader, Parameters, Path,
+    Request, RequestNumber,
 };
 
-pub fn question() -> Sent {
-    Sent::Resolve(Host(5), DnsNumber(32))
+pub fn question() -> Message {
+    Message::Resolve(Host(5), DnsNumber(32))
 }
 
-pub fn open() -> Sent {
-    Sent::Open(Address(9))
+pub fn open() -> Message {
+    Message::Open(Address(9), bare(Method::Get))
 }
 
-pub fn sealed() -> Sent {
-    Sent::Sealed(Address(9), KeyNumber(33))
+pub fn sealed() -> Message {
+    Message::Sealed(Address(9), KeyNumber(33), bare(Method::Get))
 }
 
 pub fn pair(prefixed: bool, name: u16, value: u32) -> Pair {
@@ -36,7 +36,7 @@ pub fn cookies(p: Pair, count: usize) -> Jar {
 }
 
 // With a method alone, as in 01's example run.
-pub fn bare(method: Method) -> Request {
+fn bare(method: Method) -> Request {
     Request {
         number: RequestNumber(31),
         method,

@@ -1,41 +1,19 @@
 // Where in a buffer an event stands: buffers with room before and behind, with just enough room, and with too little.
 use crate::{given, say};
 use std::io;
-use types::{Method, Sent};
 
 // Of 37 bytes.
 fn question(rt: &impl Print, name: &[u8], out: &mut [u8], place: usize) -> io::Result<()> {
-    say::buffer(
-        rt,
-        name,
-        out,
-        place,
-        given::question(),
-        given::bare(Method::Get),
-    )
+    say::buffer(rt, name, out, place, Some(given::question()))
 }
 
 // Of 63 bytes.
 fn request(rt: &impl Print, name: &[u8], out: &mut [u8], place: usize) -> io::Result<()> {
-    say::buffer(
-        rt,
-        name,
-        out,
-        place,
-        given::open(),
-        given::bare(Method::Get),
-    )
+    say::buffer(rt, name, out, place, Some(given::open()))
 }
 
 fn nothing(rt: &impl Print, name: &[u8], out: &mut [u8], place: usize) -> io::Result<()> {
-    say::buffer(
-        rt,
-        name,
-        out,
-        place,
-        Sent::Silence,
-        given::bare(Method::Get),
-    )
+    say::buffer(rt, name, out, place, None)
 }
 
 pub fn fits(rt: &impl Print) -> io::Result<()> {
@@ -59,7 +37,7 @@ pub fn fails(rt: &impl Print) -> io::Result<()> {
     question(rt, b"one byte short in the middle", &mut middle, 4)?;
     question(rt, b"at the end", &mut middle, 40)?;
     question(rt, b"past the end", &mut middle, 41)?;
-    request(rt, b"far past the end", &mut middle, 18446744073709551615)?;
+    request(rt, b"far past the end", &mut middle, usize::MAX)?;
     let mut none = [b'.'; 0];
     question(rt, b"no buffer", &mut none, 0)
 }
@@ -70,10 +48,5 @@ pub fn silence(rt: &impl Print) -> io::Result<()> {
     nothing(rt, b"nothing at the start", &mut buffer, 0)?;
     nothing(rt, b"nothing at the end", &mut buffer, 8)?;
     nothing(rt, b"nothing past the end", &mut buffer, 9)?;
-    nothing(
-        rt,
-        b"nothing far past the end",
-        &mut buffer,
-        18446744073709551615,
-    )
+    nothing(rt, b"nothing far past the end", &mut buffer, usize::MAX)
 }

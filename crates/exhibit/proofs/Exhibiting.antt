@@ -2,7 +2,7 @@
 --     shown-whole                                  the parts, for the origin that was computed
 --     exhibits_closed                              8
 --     exhibits_lacking                             3
---     exhibits_there · exhibits_crowded            it was written; it had no room: 7
+--     exhibits_found                               it was written; or it had no room: 7
 use mathlib.Core.Path.{◌≡◌, refl, sym, ap, ap₂, ◌∙◌}
 use mathlib.Core.Bool.{Bool, true, false, cond}
 use mathlib.Core.List.{List}
@@ -13,9 +13,9 @@ use lib.ListN.{length}
 use Rattle.csexp.specs.Text.{text}
 use Rattle.csexp.specs.Term.{Term, list, Terms, nil, cons, write}
 use Rattle.csexp.specs.Encode.{number_term, labelled}
-use Rattle.csexp.specs.Sent.{Sent}
-use Rattle.std.specs.Prelude.{Some as Bytes, None as Crowded}
-use Rattle.sorted.proofs.Never.{never}
+use Rattle.csexp.specs.Sent.{Written, Sent}
+use Rattle.std.specs.Prelude.{Ok, Err}
+use Rattle.std.specs.Prelude.{ok_or}
 use Rattle.tables.specs.Tables.{windows, documents, local_storage, session_storage, Tables}
 use Rattle.tables.specs.Rows.{origin_of}
 use Rattle.wim.specs.Nouns.{WindowNumber, Origin, Top, Document, Missing, Lacking, NoRoom, Closed}
@@ -25,9 +25,7 @@ use Rattle.wim.specs.Program.{observed}
 use Rattle.browser.specs.View.{view, is_closed, browser}
 use Rattle.wim.specs.Wire.{put_into}
 use Rattle.wim.specs.Shown.{inputs_term, cookies_term, local_term, session_term, shown_to, Shown, hidden, shown, shown_document, shown_window, what_is_shown}
-use Rattle.history.specs.declared.Display.{Display}
-use Rattle.history.specs.declared.Display.TheVariants.{Lacks, Shows as Finds}
-use Rattle.history.specs.Display.{display, display_at}
+use Rattle.history.specs.Display.{Display, display, display_at}
 use Rattle.exhibit_parts.specs.Kept.{local_at, session_at}
 use Rattle.exhibit.specs.Levels.{windows_under}
 use Rattle.exhibit.specs.Exhibits.{withheld, exhibited, exhibit, saying, Shows}
@@ -50,8 +48,8 @@ shown-whole b top d o e = ap (λ (x : Origin). parts b x top d (windows_under st
 
 -- WHAT WAS FOUND.
 abbrev pub looks_like : Tables → Display → Shown
-looks_like b (Lacks m) = hidden (Lacking m)
-looks_like b (Finds top d) = shown (shown_to b top d)
+looks_like b (Err m) = hidden (Lacking m)
+looks_like b (Ok (top, d)) = shown (shown_to b top d)
 
 look_like : (b : Tables) (w : WindowNumber) → looks_like b (display_at w b) ≡ shown_window b w (reached_from steps (b windows) (b documents) w)
 unfolding observed
@@ -66,17 +64,11 @@ look_like b w = go (reached_from steps (b windows) (b documents) w)
     go (some top) = by top (active_document (b documents) w)
 
 -- WHAT IS GIVEN.
-same_count : {n m : ℕ} → Bytes n ≡ Bytes m → n ≡ m
-same_count e = cc
-
-other-answer : {A : Type 0} {n : ℕ} → Bytes n ≡ Crowded → A
-other-answer e = never (cc)
-
 abbrev text_of : List ℕ → WindowNumber → Document → List ℕ
 text_of m top d = write (shown_to (view m) top d)
 
 module _ (m : List ℕ) (w : WindowNumber) (out : List ℕ) (place : ℕ) where
-  pub exhibits_closed : is_closed m ≡ true → Shows m w out place (record { verdict = Refused Closed; count = 0 }) out
+  pub exhibits_closed : is_closed m ≡ true → Shows m w out place (Err Closed) out
   unfolding exhibit what_is_shown
   exhibits_closed e = record { tells = ap (λ (c : Bool). exhibited (cond c (hidden Closed) (shown_window (view m) w (reached_from steps (view m windows) (view m documents) w))) out place) (sym e) }
 
@@ -87,22 +79,14 @@ module _ (m : List ℕ) (w : WindowNumber) (out : List ℕ) (place : ℕ) where
       ∙ ap (λ (y : Shown). exhibited y out place) (look_like (view m) w)
       ∙ ap (λ (c : Bool). exhibited (cond c (hidden Closed) (shown_window (view m) w (reached_from steps (view m windows) (view m documents) w))) out place) (sym e)
 
-  pub exhibits_lacking : (x : Missing) → is_closed m ≡ false → Lacks x ≡ display_at w (view m) → Shows m w out place (record { verdict = Refused (Lacking x); count = 0 }) out
-  exhibits_lacking x e f = record { tells = open_tells (Lacks x) e f }
+  pub exhibits_lacking : (x : Missing) → is_closed m ≡ false → Err x ≡ display_at w (view m) → Shows m w out place (Err (Lacking x)) out
+  exhibits_lacking x e f = record { tells = open_tells (Err x) e f }
 
-  module _ (top : WindowNumber) (d : Document) (e : is_closed m ≡ false) (f : Finds top d ≡ display_at w (view m)) where
-    pub exhibits_there : {n : ℕ} {out₂ : List ℕ} → Sent (write (shown_to (view m) top d)) out place out₂ (Bytes n) → Shows m w out place (record { verdict = Accepted; count = n }) out₂
-    exhibits_there {n} {out₂} s = record { tells = go (leb (place + length (text_of m top d)) (length out)) s.says s.leaves ∙ open_tells (Finds top d) e f }
-      where
-        go : (t : Bool) → Bytes n ≡ cond t (Bytes (length (text_of m top d))) Crowded → out₂ ≡ cond t (put_into out place (text_of m top d)) out
-            → saying (record { verdict = Accepted; count = n }) out₂ ≡ cond t (record { verdict = Accepted; count = length (text_of m top d); buffer = put_into out place (text_of m top d) }) (withheld NoRoom out)
-        go true g h = ap₂ (λ (k : ℕ) (x : List ℕ). record { verdict = Accepted; count = k; buffer = x }) (same_count g) h
-        go false g h = other-answer g
-
-    pub exhibits_crowded : {out₂ : List ℕ} → Sent (write (shown_to (view m) top d)) out place out₂ Crowded → Shows m w out place (record { verdict = Refused NoRoom; count = 0 }) out₂
-    exhibits_crowded {out₂} s = record { tells = go (leb (place + length (text_of m top d)) (length out)) s.says s.leaves ∙ open_tells (Finds top d) e f }
-      where
-        go : (t : Bool) → Crowded ≡ cond t (Bytes (length (text_of m top d))) Crowded → out₂ ≡ cond t (put_into out place (text_of m top d)) out
-            → saying (record { verdict = Refused NoRoom; count = 0 }) out₂ ≡ cond t (record { verdict = Accepted; count = length (text_of m top d); buffer = put_into out place (text_of m top d) }) (withheld NoRoom out)
-        go true g h = other-answer (sym g)
-        go false g h = ap (withheld NoRoom) h
+  pub exhibits_found : (top : WindowNumber) (d : Document) → is_closed m ≡ false → Ok (top, d) ≡ display_at w (view m) → {x : Written} {out₂ : List ℕ}
+      → Sent (write (shown_to (view m) top d)) out place out₂ x → Shows m w out place (ok_or x NoRoom) out₂
+  exhibits_found top d e f {x} {out₂} s = record { tells = go (leb (place + length (text_of m top d)) (length out)) s.says s.leaves ∙ open_tells (Ok (top, d)) e f }
+    where
+      go : (t : Bool) → x ≡ cond t (some (length (text_of m top d))) none → out₂ ≡ cond t (put_into out place (text_of m top d)) out
+          → saying (ok_or x NoRoom) out₂ ≡ cond t (record { verdict = Accepted; count = length (text_of m top d); buffer = put_into out place (text_of m top d) }) (withheld NoRoom out)
+      go true g h = ap₂ (λ (y : Written) (o : List ℕ). saying (ok_or y NoRoom) o) g h
+      go false g h = ap₂ (λ (y : Written) (o : List ℕ). saying (ok_or y NoRoom) o) g h

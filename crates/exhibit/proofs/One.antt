@@ -1,6 +1,6 @@
 -- The promise of showing leaves nothing free.
---     one-exhibit     any two results that it allows are the same: verdict, count and buffer
---     untouched       at a refusal nothing was written, and the buffer is as it was
+--     one-exhibit     any two results that it allows are the same: verdict and count, and buffer
+--     untouched       at a refusal the buffer is as it was
 --     written-within  what was written lies within the buffer
 use mathlib.Core.Path.{◌≡◌, refl, sym, ap, ◌∙◌}
 use mathlib.Core.Bool.{Bool, true, false, cond}
@@ -17,27 +17,37 @@ use Rattle.wim.specs.Step.{Browser}
 use Rattle.browser.specs.View.{browser}
 use Rattle.wim.specs.Wire.{put_into}
 use Rattle.wim.specs.Shown.{Shown, hidden, shown, what_is_shown}
-use Rattle.exhibit.specs.Exhibits.{Exhibit, withheld, exhibited, exhibit, saying, Shows}
-use Rattle.exhibit.specs.declared.Showing.{Showing}
+use Rattle.exhibit.specs.Exhibits.{Exhibit, withheld, exhibited, exhibit, Showing, saying, Shows}
+use Rattle.std.specs.Prelude.{Ok, Err}
+
+buffer_of : (r : Showing) (o : List ℕ) → o ≡ (saying r o).buffer
+buffer_of (Ok n) o = refl
+buffer_of (Err why) o = refl
+
+same_told : (r s : Showing) → {o p : List ℕ} → saying r o ≡ saying s p → r ≡ s
+same_told (Ok n) (Ok k) e = ap (λ (x : Exhibit). Ok x.count) e
+same_told (Ok n) (Err why) e = never (cc)
+same_told (Err why) (Ok k) e = never (cc)
+same_told (Err why) (Err other) e = cc
 
 -- "Two browsers with the same rows are equal"
 pub one-exhibit : {m n : List ℕ} {w : WindowNumber} {out : List ℕ} {place : ℕ} {r s : Showing} {out₁ out₂ : List ℕ}
-    → browser m ≡ browser n → Shows m w out place r out₁ → Shows n w out place s out₂ → (r.verdict ≡ s.verdict) × (r.count ≡ s.count) × (out₁ ≡ out₂)
+    → browser m ≡ browser n → Shows m w out place r out₁ → Shows n w out place s out₂ → (r ≡ s) × (out₁ ≡ out₂)
 one-exhibit {m} {n} {w} {out} {place} {r} {s} {out₁} {out₂} e u v =
     let same : saying r out₁ ≡ saying s out₂ = u.tells ∙ ap (λ (x : Browser). exhibit x w out place) e ∙ sym v.tells in
-    (ap (λ (x : Exhibit). x.verdict) same, ap (λ (x : Exhibit). x.count) same, ap (λ (x : Exhibit). x.buffer) same)
+    (same_told r s same, buffer_of r out₁ ∙ ap (λ (x : Exhibit). x.buffer) same ∙ sym (buffer_of s out₂))
 
 module _ (out : List ℕ) (place : ℕ) where
-  idle : (x : Shown) (why : Refusal) → (exhibited x out place).verdict ≡ Refused why → ((exhibited x out place).count ≡ 0) × ((exhibited x out place).buffer ≡ out)
-  idle (hidden r) why e = (refl, refl)
+  idle : (x : Shown) (why : Refusal) → (exhibited x out place).verdict ≡ Refused why → (exhibited x out place).buffer ≡ out
+  idle (hidden r) why e = refl
   idle (shown t) why e = go (leb (place + length (write t)) (length out)) e
     where
       there : Exhibit
       there = record { verdict = Accepted; count = length (write t); buffer = put_into out place (write t) }
 
-      go : (c : Bool) → (cond c there (withheld NoRoom out)).verdict ≡ Refused why → ((cond c there (withheld NoRoom out)).count ≡ 0) × ((cond c there (withheld NoRoom out)).buffer ≡ out)
+      go : (c : Bool) → (cond c there (withheld NoRoom out)).verdict ≡ Refused why → (cond c there (withheld NoRoom out)).buffer ≡ out
       go true e = never (cc)
-      go false e = (refl, refl)
+      go false e = refl
 
   inside : (x : Shown) → (exhibited x out place).count ≤ length (exhibited x out place).buffer
   inside (hidden r) = omega arith
@@ -51,17 +61,17 @@ module _ (out : List ℕ) (place : ℕ) where
           omega arith
       go false = omega arith
 
-module _ {m : List ℕ} {w : WindowNumber} {out : List ℕ} {place : ℕ} {r : Showing} {out₂ : List ℕ} (u : Shows m w out place r out₂) where
-  pub untouched : (why : Refusal) → r.verdict ≡ Refused why → (r.count ≡ 0) × (out₂ ≡ out)
+module _ {m : List ℕ} {w : WindowNumber} {out : List ℕ} {place : ℕ} {out₂ : List ℕ} where
+  pub untouched : (why : Refusal) → Shows m w out place (Err why) out₂ → out₂ ≡ out
   unfolding exhibit
-  untouched why e =
-      let i = idle out place (what_is_shown (browser m) w) why (sym (ap (λ (x : Exhibit). x.verdict) u.tells) ∙ e) in
-      (ap (λ (x : Exhibit). x.count) u.tells ∙ i.0, ap (λ (x : Exhibit). x.buffer) u.tells ∙ i.1)
+  untouched why u =
+      let i = idle out place (what_is_shown (browser m) w) why (sym (ap (λ (x : Exhibit). x.verdict) u.tells)) in
+      ap (λ (x : Exhibit). x.buffer) u.tells ∙ i
 
-  pub written-within : r.count ≤ length out₂
+  pub written-within : (count : ℕ) → Shows m w out place (Ok count) out₂ → count ≤ length out₂
   unfolding exhibit
-  written-within =
+  written-within count u =
       let i = inside out place (what_is_shown (browser m) w) in
-      let n : r.count ≡ (exhibited (what_is_shown (browser m) w) out place).count = ap (λ (x : Exhibit). x.count) u.tells in
+      let n : count ≡ (exhibited (what_is_shown (browser m) w) out place).count = ap (λ (x : Exhibit). x.count) u.tells in
       let l : length out₂ ≡ length (exhibited (what_is_shown (browser m) w) out place).buffer = ap (λ (x : Exhibit). length x.buffer) u.tells in
       omega arith

@@ -28,13 +28,11 @@ fn write_exhibit(m: &Memory, out: &mut [u8], at: usize, top: WindowNumber, d: Do
     ensures { Writes (shown_to (view m.now) top d) out.old at out.new result }
 {
     let origin = origin_of(d);
-    let document = d.number;
-    let state = d.state;
     let a = open_list(out, at);
     let b = write_windows(m, out, a, origin, None, STEPS);
-    let c = labelled(out, b, b"document", document.0);
-    let e = number(out, c, state.0);
-    let f = write_inputs(m, out, e, document);
+    let c = labelled(out, b, b"document", d.number.0);
+    let e = number(out, c, d.state.0);
+    let f = write_inputs(m, out, e, d.number);
     let g = write_cookies(m, out, f, origin);
     let h = write_local(m, out, g, origin);
     let i = write_session(m, out, h, origin, top);
@@ -53,12 +51,10 @@ fn put_exhibit(
 {
     let mut nothing = [0u8; 1];
     let n = write_exhibit(m, &mut nothing, 0, top, d);
-    if place <= out.len() {
-        if n <= out.len() - place {
-            let end = place + n;
-            write_exhibit(m, &mut out[place..end], 0, top, d);
-            return Some(n);
-        }
+    if place <= out.len() && n <= out.len() - place {
+        let end = place + n;
+        write_exhibit(m, &mut out[place..end], 0, top, d);
+        return Some(n);
     }
     None
 }

@@ -12,27 +12,19 @@ ghost use Rattle.exhibit.specs.Levels.{hangs_under, windows_under, below, within
 
 use csexp::write::{close_list, empty_list, labelled, number, open_list, word};
 use exhibit_parts::{write_inputs, write_opener, write_referrer};
-use labels::same_origin;
 use memory::Memory;
+use rows::Table;
 use types::rows::{Document, Parent, Window};
 use types::{Origin, WindowNumber};
 use walks::{active_document, origin_of};
+use windows::Windows;
 use writing::addresses::write_url;
 
 // Whether a window with this parent hangs there.
 fn hangs_under(place: Parent, parent: Parent) -> bool
     ensures { result ≡ hangs_under place parent }
 {
-    match place {
-        None => match parent {
-            None => true,
-            Some(_) => false,
-        },
-        Some(n) => match parent {
-            None => false,
-            Some(k) => k.0 == n.0,
-        },
-    }
+    place == parent
 }
 
 // (window ..): the windows that hang at a place, at most so many levels deep, and none where no level is left.
@@ -50,17 +42,11 @@ pub fn write_windows(
     if levels == 0 {
         return empty_list(out, at);
     }
-    let n = windows::size(m);
     let mut p = open_list(out, at);
-    let mut i: usize = 0;
-    while i < n {
-        let row = windows::row(m, i);
-        let parent = row.parent;
-        if hangs_under(place, parent) {
+    for i in 0..Windows::size(m) {
+        let row = Windows::row(m, i);
+        if hangs_under(place, row.parent) {
             p = write_window(m, out, p, origin, row, levels - 1);
-            i += 1;
-        } else {
-            i += 1;
         }
     }
     close_list(out, p)
@@ -78,14 +64,12 @@ fn write_window(
 ) -> usize
     ensures { Writes (window_term row (within levels (view m.now) origin (active_document (view m.now documents) row.number))) out.old at out.new result }
 {
-    let window = row.number;
-    let opener = row.opener;
     let a = open_list(out, at);
-    let b = labelled(out, a, b"window", window.0);
+    let b = labelled(out, a, b"window", row.number.0);
     let c = open_list(out, b);
-    let d = document_items(m, out, c, origin, window, levels);
+    let d = document_items(m, out, c, origin, row.number, levels);
     let e = close_list(out, d);
-    let f = write_opener(out, e, opener);
+    let f = write_opener(out, e, row.opener);
     close_list(out, f)
 }
 
@@ -101,16 +85,16 @@ fn document_items(
 ) -> usize
     ensures { Items (within levels (view m.now) origin (active_document (view m.now documents) window)) out.old at out.new result }
 {
-    let active = active_document(m, window);
-    if active.found {
-        let d = active.row;
-        let its = origin_of(d);
-        if same_origin(its, origin) {
-            return write_whole(m, out, at, origin, d, levels);
+    match active_document(m, window) {
+        None => at,
+        Some(d) => {
+            if origin_of(d) == origin {
+                write_whole(m, out, at, origin, d, levels)
+            } else {
+                write_limited(m, out, at, origin, d, levels)
+            }
         }
-        return write_limited(m, out, at, origin, d, levels);
     }
-    at
 }
 
 // (document location () referrer script scriptstate inputs subwindows 1:T)
@@ -125,20 +109,15 @@ fn write_whole(
 ) -> usize
     ensures { Writes (whole_document (view m.now) d (below levels (view m.now) origin d)) out.old at out.new result }
 {
-    let document = d.number;
-    let location = d.location;
-    let referrer = d.referrer;
-    let script = d.script;
-    let state = d.state;
     let a = open_list(out, at);
-    let b = labelled(out, a, b"document", document.0);
-    let c = write_url(out, b, location);
+    let b = labelled(out, a, b"document", d.number.0);
+    let c = write_url(out, b, d.location);
     let e = empty_list(out, c);
-    let f = write_referrer(out, e, referrer);
-    let g = number(out, f, script.0);
-    let h = number(out, g, state.0);
-    let i = write_inputs(m, out, h, document);
-    let j = write_windows(m, out, i, origin, Some(document), levels);
+    let f = write_referrer(out, e, d.referrer);
+    let g = number(out, f, d.script.0);
+    let h = number(out, g, d.state.0);
+    let i = write_inputs(m, out, h, d.number);
+    let j = write_windows(m, out, i, origin, Some(d.number), levels);
     let k = word(out, j, b"T");
     close_list(out, k)
 }
@@ -155,9 +134,8 @@ fn write_limited(
 ) -> usize
     ensures { Writes (limited_document d (below levels (view m.now) origin d)) out.old at out.new result }
 {
-    let document = d.number;
     let a = open_list(out, at);
-    let b = labelled(out, a, b"document", document.0);
-    let c = write_windows(m, out, b, origin, Some(document), levels);
+    let b = labelled(out, a, b"document", d.number.0);
+    let c = write_windows(m, out, b, origin, Some(d.number), levels);
     close_list(out, c)
 }

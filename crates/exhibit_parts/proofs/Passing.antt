@@ -4,7 +4,7 @@
 use mathlib.Core.Path.{◌≡◌, refl, sym, ap, subst, ◌∙◌}
 use mathlib.Core.Bool.{Bool, true, false, cond}
 use mathlib.Core.List.{List, [], ◌∷◌, ◌++◌}
-use Prim.Native.Nat.{ℕ, zero-le, ◌+◌, ◌≤◌, ◌<◌}
+use Prim.Native.Nat.{ℕ, ◌+◌, ◌≤◌, ◌<◌}
 use native.Mathlib.Numerals.{add-one}
 use native.Mathlib.Omega.{arith}
 use lib.ListN.{length, take}
@@ -19,8 +19,6 @@ use Rattle.sorted.specs.Table.{keep}
 
 pub record Passing {A : Type 0} (t : Layout A) (p : A → Bool) (f : A → Term) (m : List ℕ) (n i : ℕ) (s : List ℕ) (at : ℕ) (s₂ : List ℕ) (q : ℕ) : Type 0 where
   pub counts : n ≡ length (table t m)
-  pub within : i ≤ n
-  pub same : length s₂ ≡ length s
   pub all : Items (each f (keep p (take i (table t m)))) s at s₂ q
 
 module _ {A : Type 0} (p : A → Bool) (f : A → Term) where
@@ -48,7 +46,7 @@ module _ {A : Type 0} (p : A → Bool) (f : A → Term) where
 module _ {A : Type 0} {t : Layout A} {p : A → Bool} {f : A → Term} {m : List ℕ} {n : ℕ} where
   pub pass_start : (s : List ℕ) (at : ℕ) → n ≡ length (table t m) → at ≤ top → Passing t p f m n 0 s at s at
   unfolding keep each
-  pass_start s at e h = record { counts = e; within = zero-le; same = refl; all = absent s at h }
+  pass_start s at e h = record { counts = e; all = absent s at h }
 
   module _ {i : ℕ} {s s₁ : List ℕ} {at q : ℕ} (u : Passing t p f m n i s at s₁ q) where
     more : {r : A} → Read t m i r → i < n → take (i + 1) (table t m) ≡ take i (table t m) ++ (r ∷ [])
@@ -59,11 +57,9 @@ module _ {A : Type 0} {t : Layout A} {p : A → Bool} {f : A → Term} {m : List
         ∙ take-suc (table t m) i (t.decode []) (omega arith)
         ∙ ap (λ (x : A). take i (table t m) ++ (x ∷ [])) (get_or-take (count t m) (rows t m) i (t.decode []) (omega arith) ∙ sym g.is)
 
-    pub pass_takes : {r : A} {s₂ : List ℕ} {q₂ : ℕ} → Read t m i r → i < n → p r ≡ true → Writes (f r) s₁ q s₂ q₂ → length s₂ ≡ length s₁ → Passing t p f m n (i + 1) s at s₂ q₂
-    pass_takes {r} {s₂} {q₂} g h e w l = record {
+    pub pass_takes : {r : A} {s₂ : List ℕ} {q₂ : ℕ} → Read t m i r → i < n → p r ≡ true → Writes (f r) s₁ q s₂ q₂ → Passing t p f m n (i + 1) s at s₂ q₂
+    pass_takes {r} {s₂} {q₂} g h e w = record {
       counts = u.counts;
-      within = omega arith;
-      same = l ∙ u.same;
       all = subst (λ (ts : Terms). Items ts s at s₂ q₂)
           (sym (ap (λ (x : List A). each f (keep p x)) (more g h) ∙ each-takes p f (take i (table t m)) r e))
           (both u.all (single w));
@@ -72,8 +68,6 @@ module _ {A : Type 0} {t : Layout A} {p : A → Bool} {f : A → Term} {m : List
     pub pass_skips : {r : A} → Read t m i r → i < n → p r ≡ false → Passing t p f m n (i + 1) s at s₁ q
     pass_skips {r} g h e = record {
       counts = u.counts;
-      within = omega arith;
-      same = u.same;
       all = subst (λ (ts : Terms). Items ts s at s₁ q)
           (sym (ap (λ (x : List A). each f (keep p x)) (more g h) ∙ each-skips p f (take i (table t m)) r e))
           u.all;

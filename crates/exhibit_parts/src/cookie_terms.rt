@@ -9,8 +9,10 @@ ghost use Rattle.layouts.specs.Tables.{host_cookies_in};
 ghost use Rattle.wim.specs.Shown.{cookie_term};
 ghost use Rattle.exhibit_parts.specs.Kept.{is_open_to};
 
+use cookies::Cookies;
 use csexp::write::{close_list, open_list};
 use memory::Memory;
+use rows::Table;
 use types::Origin;
 use types::rows::HostCookie;
 use writing::cookies::write_pair;
@@ -18,35 +20,26 @@ use writing::cookies::write_pair;
 fn is_open_to(row: HostCookie, origin: Origin) -> bool
     ensures { result ≡ is_open_to origin row }
 {
-    let cookie = row.cookie;
-    let protocol = origin.protocol;
-    let open = sorted::not(cookie.httponly);
-    let goes = labels::goes_over(protocol, cookie);
-    let may = sorted::both(open, goes);
-    sorted::both(row.host.0 == origin.host.0, may)
+    row.host == origin.host
+        && !row.cookie.httponly
+        && labels::goes_over(origin.protocol, row.cookie)
 }
 
 // (name value)
 fn write_cookie(out: &mut [u8], at: usize, row: HostCookie) -> usize
     ensures { Writes (cookie_term row) out.old at out.new result }
 {
-    let pair = labels::pair_of(row);
-    write_pair(out, at, pair)
+    write_pair(out, at, labels::pair_of(row))
 }
 
 pub fn write_cookies(m: &Memory, out: &mut [u8], at: usize, origin: Origin) -> usize
     ensures { Writes (list (each cookie_term (keep (is_open_to origin) (table host_cookies_in m.now)))) out.old at out.new result }
 {
-    let n = cookies::size(m);
     let mut p = open_list(out, at);
-    let mut i: usize = 0;
-    while i < n {
-        let row = cookies::row(m, i);
+    for i in 0..Cookies::size(m) {
+        let row = Cookies::row(m, i);
         if is_open_to(row, origin) {
             p = write_cookie(out, p, row);
-            i += 1;
-        } else {
-            i += 1;
         }
     }
     close_list(out, p)

@@ -9,23 +9,19 @@ ghost use Rattle.exhibit_parts.specs.Kept.{is_for, input_term};
 
 use crate::values::write_news;
 use csexp::write::{close_list, open_list};
+use inputs::Inputs;
 use memory::Memory;
+use rows::Table;
 use types::DocumentNumber;
 
 pub fn write_inputs(m: &Memory, out: &mut [u8], at: usize, document: DocumentNumber) -> usize
     ensures { Writes (list (each input_term (keep (is_for document) (table inputs_in m.now)))) out.old at out.new result }
 {
-    let n = inputs::size(m);
     let mut p = open_list(out, at);
-    let mut i: usize = 0;
-    while i < n {
-        let row = inputs::row(m, i);
-        if row.document.0 == document.0 {
-            let news = row.news;
-            p = write_news(out, p, news);
-            i += 1;
-        } else {
-            i += 1;
+    for i in 0..Inputs::size(m) {
+        let row = Inputs::row(m, i);
+        if row.document == document {
+            p = write_news(out, p, row.news);
         }
     }
     close_list(out, p)

@@ -1,4 +1,6 @@
 // Values that stand in what is shown. An absent one is ().
+#![tactic(auto, using(csexp::proofs::write::Steps::writers))]
+
 ghost use Rattle.csexp.specs.Puts.{Writes};
 ghost use Rattle.wim.specs.Nouns.{Page, Answered, Posted};
 ghost use Rattle.wim.specs.Shown.{opener_term, referrer_term, matching_term, body_term, news_term};

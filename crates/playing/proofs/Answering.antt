@@ -1,10 +1,11 @@
 -- The line of an item, by what its step told.
---     verdict-small · count-short     the numbers of verdicts have one digit, and the bytes of an event have room
+--     told-count · count-short        the bytes of an event, which have room
 --     turned                          the browser behind the item, and its line
 use mathlib.Core.Path.{◌≡◌, refl, sym, ap, subst, ◌∙◌}
 use mathlib.Core.Bool.{Bool, cond}
 use mathlib.Core.List.{List, [], ◌∷◌}
-use Rattle.std.specs.Prelude.{None as none, Some as some}
+use Rattle.std.specs.Prelude.{None as none, Some as some, Ok, Err}
+use Rattle.std.specs.Result.{result_unwrap_or}
 use Prim.Native.Nat.{ℕ, ◌+◌, ◌≤◌, ◌<◌}
 use native.Mathlib.Omega.{arith}
 use borrow.Author.Tests.{le-leb, eq-eqb, ne_eqb}
@@ -24,8 +25,7 @@ use Rattle.wim.specs.Step.{missing_number, refusal_number, verdict_number, Brows
 use Rattle.wim.specs.Run.{event_line, line, line_of, performed, after}
 use Rattle.wim.specs.Wire.{Returned, refusing, put_into, returning, rehearsing, rehearse}
 use Rattle.browser.specs.View.{browser}
-use Rattle.rehearsal.specs.declared.telling.Rehearsed.{Rehearsed}
-use Rattle.rehearsal.specs.Rehearses.{saying, Short, Rehearses}
+use Rattle.rehearsal.specs.Rehearses.{Rehearsed, verdict_of, count_of, saying, Short, Rehearses}
 use Rattle.playing.specs.declared.looking.Halt.TheVariants.{Stopped}
 use Rattle.playing.specs.Lines.{unwritten, line_bytes, last_line, Adds, Answered}
 use Rattle.playing.specs.Turns.{Turns}
@@ -53,9 +53,10 @@ refusal-digit Full = record { positive = omega arith; small = omega arith }
 refusal-digit NoRoom = record { positive = omega arith; small = omega arith }
 refusal-digit Closed = record { positive = omega arith; small = omega arith }
 
-pub verdict-small : (v : Verdict) → verdict_number v ≤ 8
-verdict-small Accepted = omega arith
-verdict-small (Refused why) = (refusal-digit why).small
+-- what a step tells to C and to the player: 0 bytes at a refusal
+pub told-count : (r : Rehearsed) → result_unwrap_or r 0 ≡ count_of r
+told-count (Ok n) = refl
+told-count (Err why) = refl
 
 -- where a refusal's number is written, that is its line
 refused-line : (why : Refusal) (n : ℕ) → n ≡ refusal_number why → unwritten n ≡ decimal (refusal_number why)
@@ -124,10 +125,10 @@ module _ (text m out : List ℕ) (at : ℕ) (r : Rehearsed) (n out₁ : List ℕ
   unfolding rehearse
   told = u.tells ∙ returning_is (item_in text) (browser m) out at
 
-  pub count-short : r.count ≤ 4096
+  pub count-short : count_of r ≤ 4096
   count-short = let few = few_bytes (browser m) out at (omega arith) (performed (item_in text) (browser m)) u.short in let e = ap (λ (x : Returned). x.count) told in omega arith
 
-  pub turned : {k : ℕ} → k ≡ verdict_number r.verdict → {out₂ : List ℕ} {p : ℕ} → Answered r.count k out₁ at out₂ p → {out₃ : List ℕ} {q : ℕ} → Adds (10 ∷ []) out₂ p out₃ q
+  pub turned : {k : ℕ} → k ≡ verdict_number (verdict_of r) → {out₂ : List ℕ} {p : ℕ} → Answered (count_of r) k out₁ at out₂ p → {out₃ : List ℕ} {q : ℕ} → Adds (10 ∷ []) out₂ p out₃ q
       → Turns (performed (item_in text) (browser m)) (browser m) out at out₃ (browser n) q
   turned e a v =
       let l = lined (browser m) out at (omega arith) (performed (item_in text) (browser m)) u.short told e a in

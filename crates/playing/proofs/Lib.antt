@@ -6,5 +6,4 @@ pub mod Nexts
 pub mod Running
 pub mod Loop
 pub mod Meaning
-pub mod Moving
 pub mod Telling

@@ -16,8 +16,8 @@ use Rattle.wim.specs.Run.{performed, line_of, after}
 use Rattle.browser.specs.View.{browser}
 use Rattle.playing.specs.declared.looking.Halt.{Halt}
 use Rattle.playing.specs.declared.looking.Halt.TheVariants.{Stopped}
-use Rattle.playing.specs.declared.looking.Next.{Next}
-use Rattle.playing.specs.declared.looking.Next.TheVariants.{Item, Nothing}
+use Rattle.playing.specs.Portions.{Next}
+use Rattle.std.specs.Prelude.{Ok as Item, Err as Nothing}
 use Rattle.playing.specs.Lines.{last_line, Adds, line_bytes}
 use Rattle.playing.specs.Turns.{Turns}
 use Rattle.playing.specs.Portions.{next_in, Portion, joined, portion_from, portion_of}

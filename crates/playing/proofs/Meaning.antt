@@ -23,8 +23,8 @@ use Rattle.wim.proofs.Made.{runs_on, runs_then}
 use Rattle.browser.specs.View.{browser}
 use Rattle.playing.specs.declared.looking.Halt.{Halt}
 use Rattle.playing.specs.declared.looking.Halt.TheVariants.{Over, Stopped, Hungry, Crowded}
-use Rattle.playing.specs.declared.looking.Next.{Next}
-use Rattle.playing.specs.declared.looking.Next.TheVariants.{Item, Nothing}
+use Rattle.playing.specs.Portions.{Next}
+use Rattle.std.specs.Prelude.{Ok as Item, Err as Nothing}
 use Rattle.playing.specs.declared.portions.Played.{Played}
 use Rattle.playing.specs.Lines.{line_bytes, last_line}
 use Rattle.playing.specs.Portions.{unended, next_in, Portion, joined, portion_from, portion_of}

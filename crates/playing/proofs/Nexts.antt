@@ -16,17 +16,17 @@ use Rattle.csexp.specs.Limits.{item_bytes, item_levels, ending_of}
 use Rattle.sorted.proofs.Never.{never}
 use Rattle.playing.specs.declared.looking.Halt.{Halt}
 use Rattle.playing.specs.declared.looking.Halt.TheVariants.{Over, Stopped, Hungry, Crowded}
-use Rattle.playing.specs.declared.looking.Next.TheVariants.{Item, Nothing}
+use Rattle.std.specs.Prelude.{Ok as Item, Err as Nothing}
 use Rattle.playing.specs.Lines.{line_bytes}
-use Rattle.playing.specs.Portions.{unended, first_of, next_in}
+use Rattle.playing.specs.Portions.{unended, first_of, next_in, Next}
 
-same_bytes : {n m : ℕ} → Item n ≡ Item m → n ≡ m
+same_bytes : {n m : ℕ} → ◌≡◌ {A = Next} (Item n) (Item m) → n ≡ m
 same_bytes e = cc
 
-same-halt : {h k : Halt} → Nothing h ≡ Nothing k → h ≡ k
+same-halt : {h k : Halt} → ◌≡◌ {A = Next} (Nothing h) (Nothing k) → h ≡ k
 same-halt e = cc
 
-other-next : {A : Type 0} {h : Halt} {n : ℕ} → Nothing h ≡ Item n → A
+other-next : {A : Type 0} {h : Halt} {n : ℕ} → ◌≡◌ {A = Next} (Nothing h) (Item n) → A
 other-next e = never (cc)
 
 -- an item of n bytes stands first, and its line has room

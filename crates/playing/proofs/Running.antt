@@ -20,8 +20,8 @@ use Rattle.wim.specs.Step.{refusal_number, Browser, Result}
 use Rattle.wim.specs.Run.{line, performed, line_of, after, play_from, play}
 use Rattle.playing.specs.declared.looking.Halt.{Halt}
 use Rattle.playing.specs.declared.looking.Halt.TheVariants.{Stopped, Hungry}
-use Rattle.playing.specs.declared.looking.Next.{Next}
-use Rattle.playing.specs.declared.looking.Next.TheVariants.{Item, Nothing}
+use Rattle.playing.specs.Portions.{Next}
+use Rattle.std.specs.Prelude.{Ok as Item, Err as Nothing}
 use Rattle.playing.specs.Lines.{last_line}
 use Rattle.playing.specs.Portions.{unended, next_in, Portion, halted, joined, portion_from}
 use Rattle.playing.specs.Plays.{going_on}

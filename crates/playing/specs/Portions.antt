@@ -1,5 +1,6 @@
 -- A run is played portion by portion. A portion is played as far as its items are whole, and as long as there is room for the longest line.
 use Rattle.std.specs.Prelude.{Bool, cond, List, [], ◌∷◌, ◌++◌, ℕ, zero, suc, ◌+◌, ◌-◌, leb, ltb, length, take, drop}
+use Rattle.std.specs.Prelude.{Result, Ok as Item, Err as Nothing}
 use Rattle.csexp.specs.Limits.{Ending}
 use Rattle.std.specs.Prelude.{Some as Whole, None as Broken}
 use Rattle.csexp.specs.Limits.{item_bytes, item_levels, ending_of}
@@ -8,9 +9,11 @@ use Rattle.wim.specs.Step.{Browser}
 use Rattle.wim.specs.Run.{performed, line_of, after}
 use Rattle.playing.specs.declared.looking.Halt.{Halt}
 use Rattle.playing.specs.declared.looking.Halt.TheVariants.{Over, Stopped, Hungry, Crowded}
-use Rattle.playing.specs.declared.looking.Next.{Next}
-use Rattle.playing.specs.declared.looking.Next.TheVariants.{Item, Nothing}
 use Rattle.playing.specs.Lines.{line_bytes, last_line}
+
+-- an item of so many bytes, or none
+abbrev pub Next : Type 0
+Next = Result ℕ Halt
 
 -- no item stands first: refusal 1 is certain where nothing follows, and where no item is so long
 abbrev pub unended : List ℕ → Bool → Halt

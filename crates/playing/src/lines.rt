@@ -21,16 +21,14 @@ pub fn put_answer(out: &mut [u8], at: usize, count: usize, n: u32) -> usize
     requires n_bound { n ≤ 8 }
     ensures { Answered count n out.old at out.new result }
 {
-    let sends = 0 < count;
-    if sends {
-        return at + count;
-    }
-    let silent = n == 0;
-    if silent {
+    if 0 < count {
+        at + count
+    } else if n == 0 {
         let p = put_byte(out, at, b'(');
-        return put_byte(out, p, b')');
+        put_byte(out, p, b')')
+    } else {
+        put_byte(out, at, b'0' + n as u8)
     }
-    put_byte(out, at, 48 + n as u8)
 }
 
 // Behind the last item: the line of refusal 1, or none.
@@ -43,8 +41,6 @@ pub fn put_last(out: &mut [u8], at: usize, halt: Halt) -> usize
             let p = put_byte(out, at, b'1');
             put_byte(out, p, b'\n')
         }
-        Halt::Over => at,
-        Halt::Hungry => at,
-        Halt::Crowded => at,
+        Halt::Over | Halt::Hungry | Halt::Crowded => at,
     }
 }

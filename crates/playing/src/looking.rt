@@ -16,45 +16,28 @@ pub enum Halt {
     Crowded, // a line may have no room
 }
 
-// An item of so many bytes, or none.
-#[derive(Clone, Copy)]
-pub enum Next {
-    Item(usize),
-    Nothing(Halt),
-}
-
 // No item stands first: that is refusal 1 where nothing follows, and where no item is so long.
 fn unended(s: &[u8], last: bool) -> Halt
     ensures { result ≡ unended s.now last }
 {
-    if s.len() == 0 {
-        if last {
-            return Halt::Over;
-        }
-        return Halt::Hungry;
+    if s.is_empty() {
+        if last { Halt::Over } else { Halt::Hungry }
+    } else if last || ITEM_BYTES <= s.len() {
+        Halt::Stopped
+    } else {
+        Halt::Hungry
     }
-    if last {
-        return Halt::Stopped;
-    }
-    if ITEM_BYTES <= s.len() {
-        return Halt::Stopped;
-    }
-    Halt::Hungry
 }
 
-// What stands first in what is left of a portion, with so much room for lines.
-pub fn next_in(s: &[u8], last: bool, room: usize) -> Next
+// What stands first in what is left of a portion, with so much room for lines: an item of so many bytes, or none.
+pub fn next_in(s: &[u8], last: bool, room: usize) -> Result<usize, Halt>
     ensures { result ≡ next_in s.now last room }
 {
     if room < LINE_BYTES {
-        return Next::Nothing(Halt::Crowded);
+        return Err(Halt::Crowded);
     }
-    let first = ends_at(s, 0, ITEM_BYTES, ITEM_LEVELS);
-    match first {
-        Some(end) => Next::Item(end),
-        None => {
-            let why = unended(s, last);
-            Next::Nothing(why)
-        }
+    match ends_at(s, 0, ITEM_BYTES, ITEM_LEVELS) {
+        Some(end) => Ok(end),
+        None => Err(unended(s, last)),
     }
 }

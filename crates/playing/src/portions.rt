@@ -3,7 +3,7 @@ ghost use Rattle.playing.specs.Plays.{Plays};
 
 use crate::items::play_item;
 use crate::lines::put_last;
-use crate::looking::{Halt, Next, next_in};
+use crate::looking::{Halt, next_in};
 use memory::Memory;
 
 // How many bytes were played, how many bytes their lines have, and why no more were played.
@@ -21,14 +21,13 @@ pub fn play(text: &[u8], last: bool, m: &mut Memory, out: &mut [u8]) -> Played
     let mut read = 0;
     let mut written = 0;
     loop {
-        let next = next_in(&text[read..], last, out.len() - written);
-        match next {
-            Next::Item(n) => {
+        match next_in(&text[read..], last, out.len() - written) {
+            Ok(n) => {
                 let end = read + n;
                 written = play_item(&text[read..end], m, out, written);
                 read = end;
             }
-            Next::Nothing(halt) => {
+            Err(halt) => {
                 let end = put_last(out, written, halt);
                 return Played {
                     read,

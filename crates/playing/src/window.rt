@@ -27,13 +27,8 @@ fn keep(window: &mut [u8], from: usize, to: usize) -> usize
     requires to_in_bounds { to ≤ length window.old }
     ensures { Keeps window.old from to window.new result }
 {
-    let n = to - from;
-    let mut i = 0;
-    while i < n {
-        window[i] = window[from + i];
-        i += 1;
-    }
-    n
+    window.copy_within(from..to, 0);
+    to - from
 }
 
 // Reads on behind the bytes that are held: how many came, and none at the end of the input.

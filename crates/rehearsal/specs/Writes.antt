@@ -1,5 +1,5 @@
 -- What is told of a step that was performed, with the event in the buffer.
-use Rattle.std.specs.Prelude.{◌≡◌, Bool, true, List, ℕ, ◌+◌, ◌≤◌, length, Option, Ok, Err}
+use Rattle.std.specs.Prelude.{◌≡◌, List, ℕ, Option, Ok, Err}
 use Rattle.csexp.specs.Sent.{Written}
 use Rattle.std.specs.Prelude.{Some as Bytes, None as Crowded}
 use Rattle.types.specs.declared.refusals.Refusal.TheVariants.{NoRoom}
@@ -7,11 +7,6 @@ use Rattle.shapes.specs.Events.{Message}
 use Rattle.writing.specs.Wrote.{Wrote}
 use Rattle.stepping.specs.Gives.{Performed}
 use Rattle.rehearsal.specs.Rehearses.{Rehearsed}
-
--- whether there is room for the longest event: "An outgoing event has at most 4,096 bytes"
-pub record Wide (out : List ℕ) (place : ℕ) (r : Bool) : Type 0 where
-  pub room : r ≡ true → place + 4096 ≤ length out
-  pub wide : place + 4096 ≤ length out → r ≡ true
 
 -- the event was written, or there was none; else it is 7
 abbrev pub answered : Written → Rehearsed

@@ -16,11 +16,9 @@ fn on_a_copy(item: Item, m: &mut Memory, out: &mut [u8], place: usize) -> Rehear
 {
     let mut copy = *m;
     let done = perform::act(&mut copy, item);
-    let told = tell(done, out, place);
-    if told.is_ok() {
-        *m = copy;
-    }
-    told
+    let count = tell(done, out, place)?;
+    *m = copy;
+    Ok(count)
 }
 
 // 8, 3, 4, 5, 6, 7. In place where every table has four free rows and the buffer has room for the longest event: neither 6 nor 7 can come.
@@ -31,10 +29,10 @@ fn rehearse_item(item: Item, m: &mut Memory, out: &mut [u8], place: usize) -> Re
         return Err(Refusal::Closed);
     }
     if browser::is_roomy(m) && is_wide(out, place) {
-        let done = perform::act(m, item);
-        return tell(done, out, place);
+        tell(perform::act(m, item), out, place)
+    } else {
+        on_a_copy(item, m, out, place)
     }
-    on_a_copy(item, m, out, place)
 }
 
 // "A refusal returns its number, browser and buffer unchanged. An accepted step returns the browser and the count of bytes written."

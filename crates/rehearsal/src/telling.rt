@@ -1,5 +1,6 @@
 // What a step hands back to its caller: the verdict, and the event in the lent buffer.
-ghost use Rattle.rehearsal.specs.Writes.{Wide, Writes};
+ghost use Rattle.std.specs.Prelude.{◌+◌, ◌≤◌, ◌↔◌, IsTrue, length};
+ghost use Rattle.rehearsal.specs.Writes.{Writes};
 
 use stepping::Performed;
 use types::refusals::Refusal;
@@ -10,18 +11,14 @@ pub type Rehearsed = Result<usize, Refusal>;
 
 // Whether there is room for the longest event: "An outgoing event has at most 4,096 bytes" (01 "Numbers, names, sizes").
 pub fn is_wide(out: &[u8], place: usize) -> bool
-    ensures { Wide out.now place result }
+    ensures { IsTrue result ↔ (place + 4096 ≤ length out.now) }
 {
-    if place <= out.len() {
-        return 4096 <= out.len() - place;
-    }
-    false
+    place <= out.len() && 4096 <= out.len() - place
 }
 
 // The event is written; or has no room, and nothing is.
 pub fn tell(done: Performed, out: &mut [u8], place: usize) -> Rehearsed
     ensures { Writes done out.old place result out.new }
 {
-    let message = done?;
-    write_event(out, place, message).ok_or(Refusal::NoRoom)
+    write_event(out, place, done?).ok_or(Refusal::NoRoom)
 }

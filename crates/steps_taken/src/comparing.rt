@@ -14,13 +14,9 @@ fn differ(a: u32, b: u32) -> usize
 pub fn changed(before: &Memory, after: &Memory) -> usize
     ensures { result ≡ changes before.now after.now }
 {
-    memory::whole(before);
-    memory::whole(after);
     let mut count = 0;
-    let mut i = 0;
-    while i < TOTAL {
-        count += differ(memory::get(before, i), memory::get(after, i));
-        i += 1;
+    for i in 0..TOTAL {
+        count += differ(before[i], after[i]);
     }
     count
 }

@@ -2,7 +2,7 @@
 ghost use Rattle.std.specs.Prelude.{◌≡◌, ◌≤◌, length};
 
 use crate::memories::{fill, put};
-use crate::telling::{take, word};
+use crate::telling::take;
 use csexp::decimal;
 use memory::Memory;
 use seeking::find;
@@ -37,7 +37,7 @@ fn number(line: &[u8], at: usize, most: usize) -> (usize, usize)
 fn step_line(rt: &impl Print, line: &[u8], m: &mut Memory) -> io::Result<()> {
     let (room, after) = number(line, 0, LONGEST);
     let (place, name) = number(line, after, usize::MAX);
-    let end = find(line, name, b' ');
+    let end = find(line, name, |b| b == b' ');
     let text = behind(line, end);
     let mut buffer = dots();
     take(
@@ -63,36 +63,29 @@ fn any_line(line: &[u8], m: &mut Memory) {
 
 // A line that makes a memory is told as it stands. One that makes none is told to be so, and leaves the memory as it was.
 fn memory_line(rt: &impl Print, line: &[u8], first: u8, m: &mut Memory) -> io::Result<()> {
-    word(rt, line)?;
-    word(rt, b"\n")?;
+    rt.write_all(line)?;
+    println!(rt; "")?;
     match first {
         b'a' => any_line(line, m),
         b'p' => put_line(line, m),
         b'e' => rehearsal::make_empty(m),
-        _ => word(rt, b"not understood\n")?,
+        _ => println!(rt; "not understood")?,
     }
     Ok(())
 }
 
 // A step's line begins with a digit.
 fn one_line(rt: &impl Print, line: &[u8], m: &mut Memory) -> io::Result<()> {
-    if line.len() == 0 {
-        return Ok(());
-    }
-    let first = line[0];
-    if first <= b'9' {
-        step_line(rt, line, m)
-    } else {
-        memory_line(rt, line, first, m)
+    match line {
+        [] => Ok(()),
+        [first, ..] if *first <= b'9' => step_line(rt, line, m),
+        [first, ..] => memory_line(rt, line, *first, m),
     }
 }
 
 pub fn each_line(rt: &impl Print, s: &[u8], m: &mut Memory) -> io::Result<()> {
-    let mut at = 0;
-    while at < s.len() {
-        let e = find(s, at, b'\n');
-        one_line(rt, &s[at..e], m)?;
-        at = e + 1;
+    for line in s.split_inclusive(|b| *b == b'\n') {
+        one_line(rt, line.strip_suffix(b"\n").unwrap_or(line), m)?;
     }
     Ok(())
 }

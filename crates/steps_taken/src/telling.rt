@@ -2,26 +2,17 @@
 // before the event, the event, and how many dots behind it: together as many bytes as the buffer has, where every other byte is as it was.
 use crate::comparing::changed;
 use memory::Memory;
-use seeking::{find, pass};
+use seeking::find;
 use std::io;
 
-pub fn word(rt: &impl Print, w: &[u8]) -> io::Result<()> {
-    rt.write_all(w)
-}
-
-fn number(rt: &impl Print, n: usize) -> io::Result<()> {
-    print!(rt; "{n}")
-}
-
 fn tell_buffer(rt: &impl Print, out: &[u8]) -> io::Result<()> {
-    let start = pass(out, 0, b'.');
-    number(rt, start)?;
+    let start = find(out, 0, |b| b != b'.');
+    print!(rt; "{start}")?;
     if start < out.len() {
-        let end = find(out, start, b'.');
-        word(rt, b" ")?;
-        word(rt, &out[start..end])?;
-        word(rt, b" ")?;
-        number(rt, pass(out, end, b'.') - end)?;
+        let end = find(out, start, |b| b == b'.');
+        print!(rt; " ")?;
+        rt.write_all(&out[start..end])?;
+        print!(rt; " {}", find(out, end, |b| b != b'.') - end)?;
     }
     Ok(())
 }
@@ -37,16 +28,10 @@ pub fn take(
 ) -> io::Result<()> {
     let before = *m;
     let taken = rehearsal::step(text, m, out, place);
-    let verdict = taken.verdict;
-    let count = taken.count;
-    word(rt, name)?;
-    word(rt, b": ")?;
-    number(rt, rehearsal::number(verdict) as usize)?;
-    word(rt, b", ")?;
-    number(rt, count)?;
-    word(rt, b" bytes; memory ")?;
-    number(rt, changed(&before, m))?;
-    word(rt, b" changed; buffer ")?;
+    let verdict = rehearsal::number(taken);
+    let count = taken.unwrap_or(0);
+    rt.write_all(name)?;
+    print!(rt; ": {verdict}, {count} bytes; memory {} changed; buffer ", changed(&before, m))?;
     tell_buffer(rt, out)?;
-    word(rt, b"\n")
+    println!(rt; "")
 }

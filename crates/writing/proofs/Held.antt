@@ -10,21 +10,18 @@ use denote.Shadow.{shadow}
 use denote.RattleType.{RattleType}
 use Rattle.writing.proofs.CookieRows.{sixty_four}
 use Rattle.sorted.specs.Table.{All}
-use Rattle.types.specs.contracts.Fragment as a-fragment
 use Rattle.types.specs.contracts.Url as a-url
 use Rattle.types.specs.contracts.cookies.Pair as a_pair
 use Rattle.types.specs.contracts.OriginHeader as an-origin
-use Rattle.types.specs.contracts.Referrer as a-referrer
 use Rattle.types.specs.contracts.Request as a-request
-use Rattle.types.specs.contracts.Sent as a-sent
-use Rattle.shapes.specs.Nouns.{Fragment, Absent, Named, Url, Pair, OriginHeader, Unsent, Null, From, Referrer, Unknown, Known, Request, Sent, Silence, Resolve, Open, Sealed}
-use Rattle.shapes.specs.Events.{message_of, event_text}
+use Rattle.types.specs.contracts.Message as a-message
+use Rattle.std.specs.contracts.option.Option as an-option
+use Rattle.std.specs.Borrow.{u32}
+use Rattle.std.specs.Prelude.{Option, None as none, Some as some}
+use Rattle.shapes.specs.Nouns.{Fragment, Absent, Named, Url, Pair, OriginHeader, Unsent, Null, From, Referrer, Unknown, Known, Request}
+use Rattle.shapes.specs.Events.{Message, resolve, unsealed, sealed, event_text}
 use Rattle.writing.proofs.Bounds.{short-text}
-use Rattle.writing.specs.Sized.{FragmentSmall, UrlSmall, PairSmall, OriginSmall, ReferrerSmall, RequestSmall, AnySmall}
-
-fragment-small : (f : Fragment) (vs : List Val) → Is a-fragment.the_row f vs → FragmentSmall f
-fragment-small Absent vs i = tt
-fragment-small (Named n) vs i = omega arith
+use Rattle.writing.specs.Sized.{FragmentSmall, UrlSmall, PairSmall, OriginSmall, ReferrerSmall, RequestSmall, MessageSmall, AnySmall}
 
 url-small : (u : Url) (vs : List Val) → Is a-url.the_row u vs → UrlSmall u
 url-small u vs i = record {
@@ -33,6 +30,10 @@ url-small u vs i = record {
   parameters = omega arith;
   fragment = fragment-small u.fragment _ i.1.1.1.1.1.1.0;
 }
+  where
+    fragment-small : (f : Fragment) (vs : List Val) → Is (an-option.the_row u32) f vs → FragmentSmall f
+    fragment-small Absent vs i = tt
+    fragment-small (Named n) vs i = omega arith
 
 pair_small : (p : Pair) (vs : List Val) → Is a_pair.the_row p vs → PairSmall p
 pair_small p vs i = record { name = omega arith; value = omega arith }
@@ -42,7 +43,7 @@ origin-small Unsent vs i = tt
 origin-small Null vs i = tt
 origin-small (From o) vs i = omega arith
 
-referrer-small : (r : Referrer) (vs : List Val) → Is a-referrer.the_row r vs → ReferrerSmall r
+referrer-small : (r : Referrer) (vs : List Val) → Is (an-option.the_row a-url.the_row) r vs → ReferrerSmall r
 referrer-small Unknown vs i = tt
 referrer-small (Known u) vs i = url-small u _ i.1.1.1.1.0
 
@@ -70,13 +71,15 @@ request-small q vs i =
       body = omega arith;
     }
 
--- what goes out, with the request that stands beside it
-sent-small : (s : Sent) (q : Request) (vs us : List Val) → Is a-sent.the_row s vs → Is a-request.the_row q us → AnySmall (message_of s q)
-sent-small Silence q vs us i j = tt
-sent-small (Resolve h n) q vs us i j = (omega arith, omega arith)
-sent-small (Open a) q vs us i j = (omega arith, request-small q us j)
-sent-small (Sealed a k) q vs us i j = (omega arith, (omega arith, request-small q us j))
+message-small : (m : Message) (vs : List Val) → Is a-message.the_row m vs → MessageSmall m
+message-small (resolve h n) vs i = (omega arith, omega arith)
+message-small (unsealed a q) vs i = (omega arith, request-small q _ i.1.1.1.1.1.0)
+message-small (sealed a k q) vs i = (omega arith, (omega arith, request-small q _ i.1.1.1.1.1.1.0))
+
+any-small : (m : Option Message) (vs : List Val) → Is (an-option.the_row a-message.the_row) m vs → AnySmall m
+any-small none vs i = tt
+any-small (some m) vs i = message-small m _ i.1.1.1.1.0
 
 -- 01 "An outgoing event has at most 4,096 bytes": whatever the code holds
-pub short-sent : (s : Sent) (q : Request) (vs us : List Val) → Is a-sent.the_row s vs → Is a-request.the_row q us → length (event_text (message_of s q)) ≤ 4096
-short-sent s q vs us i j = short-text (message_of s q) (sent-small s q vs us i j)
+pub short-sent : (m : Option Message) (vs : List Val) → Is (an-option.the_row a-message.the_row) m vs → length (event_text m) ≤ 4096
+short-sent m vs i = short-text m (any-small m vs i)

@@ -1,4 +1,6 @@
 // Protocols, fragments, addresses and origins (000 Definitions 12 and 13).
+#![tactic(auto, using(csexp::proofs::write::Steps::writers))]
+
 ghost use Rattle.csexp.specs.Puts.{Writes};
 ghost use Rattle.shapes.specs.Events.{protocol_term, fragment_term, url_term, origin_term};
 
@@ -29,17 +31,12 @@ pub fn write_fragment(out: &mut [u8], at: usize, fragment: Fragment) -> usize
 pub fn write_url(out: &mut [u8], at: usize, url: Url) -> usize
     ensures { Writes (url_term url) out.old at out.new result }
 {
-    let protocol = url.protocol;
-    let host = url.host;
-    let path = url.path;
-    let parameters = url.parameters;
-    let fragment = url.fragment;
     let a = open_word(out, at, b"URL");
-    let b = write_protocol(out, a, protocol);
-    let c = number(out, b, host.0 as u32);
-    let d = number(out, c, path.0 as u32);
-    let e = optional(out, d, parameters.0);
-    let f = write_fragment(out, e, fragment);
+    let b = write_protocol(out, a, url.protocol);
+    let c = number(out, b, url.host.0 as u32);
+    let d = number(out, c, url.path.0 as u32);
+    let e = optional(out, d, url.parameters.0);
+    let f = write_fragment(out, e, url.fragment);
     close_list(out, f)
 }
 
@@ -47,10 +44,8 @@ pub fn write_url(out: &mut [u8], at: usize, url: Url) -> usize
 pub fn write_origin(out: &mut [u8], at: usize, origin: Origin) -> usize
     ensures { Writes (origin_term origin) out.old at out.new result }
 {
-    let host = origin.host;
-    let protocol = origin.protocol;
     let a = open_list(out, at);
-    let b = number(out, a, host.0 as u32);
-    let c = write_protocol(out, b, protocol);
+    let b = number(out, a, origin.host.0 as u32);
+    let c = write_protocol(out, b, origin.protocol);
     close_list(out, c)
 }

@@ -1,4 +1,6 @@
 // The Cookie header: 01 "Cookie is always there, even empty".
+#![tactic(auto, using(csexp::proofs::write::Steps::writers))]
+
 ghost use Rattle.csexp.specs.Encode.{each};
 ghost use Rattle.csexp.specs.Puts.{Writes, Items};
 ghost use Rattle.types.specs.Lists.{header_pairs};
@@ -12,20 +14,19 @@ pub fn write_name(out: &mut [u8], at: usize, name: CookieName) -> usize
     ensures { Writes (name_term name) out.old at out.new result }
 {
     if name.prefixed {
-        return labelled(out, at, b"__Host", name.number as u32);
+        labelled(out, at, b"__Host", name.number as u32)
+    } else {
+        number(out, at, name.number as u32)
     }
-    number(out, at, name.number as u32)
 }
 
 // (name value)
 pub fn write_pair(out: &mut [u8], at: usize, pair: Pair) -> usize
     ensures { Writes (pair_term pair) out.old at out.new result }
 {
-    let name = pair.name;
-    let value = pair.value;
     let a = open_list(out, at);
-    let b = write_name(out, a, name);
-    let c = number(out, b, value.0);
+    let b = write_name(out, a, pair.name);
+    let c = number(out, b, pair.value.0);
     close_list(out, c)
 }
 
@@ -33,17 +34,9 @@ pub fn write_pair(out: &mut [u8], at: usize, pair: Pair) -> usize
 pub fn pair_items(out: &mut [u8], at: usize, jar: Jar) -> usize
     ensures { Items (each pair_term (header_pairs jar)) out.old at out.new result }
 {
-    let rows = jar.rows;
-    let count = jar.count;
     let mut p = at;
-    let mut i = 0;
-    while i < 64 {
-        if count <= i {
-            return p;
-        }
-        let pair = rows[i];
-        p = write_pair(out, p, pair);
-        i += 1;
+    for pair in &jar.rows[..jar.count.min(jar.rows.len())] {
+        p = write_pair(out, p, *pair);
     }
     p
 }

@@ -1,6 +1,8 @@
 // Questions to the DNS server, and events: 01 "An event is receiver, sender, message; the browser has address 1, its DNS server 2".
+#![tactic(auto, using(csexp::proofs::write::Steps::writers))]
+
 ghost use Rattle.csexp.specs.Puts.{Puts, Writes};
-ghost use Rattle.shapes.specs.Events.{question_term, request_term, sealed_term, event_term, event_text};
+ghost use Rattle.shapes.specs.Events.{question_term, request_term, sealed_term, event_term, event_of, event_text};
 
 use super::requests::{write_request, write_sealed};
 use csexp::write::{close_list, labelled, number, open_list, open_word};
@@ -55,16 +57,24 @@ pub fn send_sealed(
     close_list(out, d)
 }
 
+// The event that carries a message.
+#[tactic(auto, using(csexp::proofs::write::Steps::writers), unfolding(shapes::specs::Events::event_of))]
+pub fn write_message(out: &mut [u8], at: usize, message: Message) -> usize
+    ensures { Writes (event_of message) out.old at out.new result }
+{
+    match message {
+        Message::Resolve(host, dns) => send_question(out, at, host, dns),
+        Message::Open(address, request) => send_open(out, at, address, request),
+        Message::Sealed(address, key, request) => send_sealed(out, at, address, key, request),
+    }
+}
+
 // What goes out; nothing for a step without a message.
 pub fn write_sent(out: &mut [u8], at: usize, message: Option<Message>) -> usize
     ensures { Puts (event_text message) out.old at out.new result }
 {
     match message {
         None => at,
-        Some(Message::Resolve(host, dns)) => send_question(out, at, host, dns),
-        Some(Message::Open(address, request)) => send_open(out, at, address, request),
-        Some(Message::Sealed(address, key, request)) => {
-            send_sealed(out, at, address, key, request)
-        }
+        Some(message) => write_message(out, at, message),
     }
 }

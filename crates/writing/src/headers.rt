@@ -1,4 +1,6 @@
 // The headers of a request: 01 "Request headers stand as Cookie, Origin, Referer".
+#![tactic(auto, using(csexp::proofs::write::Steps::writers))]
+
 ghost use Rattle.shapes.specs.Nouns.{Null, From, Known};
 ghost use Rattle.csexp.specs.Puts.{Writes, Items};
 ghost use Rattle.shapes.specs.Events.{origin_header, referer_header, headers_term};
@@ -60,12 +62,9 @@ pub fn referer_items(out: &mut [u8], at: usize, referrer: Referrer) -> usize
 pub fn write_headers(out: &mut [u8], at: usize, request: Request) -> usize
     ensures { Writes (headers_term request) out.old at out.new result }
 {
-    let cookies = request.cookies;
-    let origin = request.origin;
-    let referrer = request.referrer;
     let a = open_list(out, at);
-    let b = write_cookies(out, a, cookies);
-    let c = origin_items(out, b, origin);
-    let d = referer_items(out, c, referrer);
+    let b = write_cookies(out, a, request.cookies);
+    let c = origin_items(out, b, request.origin);
+    let d = referer_items(out, c, request.referrer);
     close_list(out, d)
 }

@@ -29,13 +29,11 @@ pub fn write_event(out: &mut [u8], place: usize, message: Option<Message>) -> Op
     if n == 0 {
         return Some(0);
     }
-    if place <= out.len() {
-        if n <= out.len() - place {
-            let end = place + n;
-            // 01 "bytes before and after it stay": the writer is lent the middle part of the output buffer, mutable.
-            events::write_sent(&mut out[place..end], 0, message);
-            return Some(n);
-        }
+    if place <= out.len() && n <= out.len() - place {
+        let end = place + n;
+        // 01 "bytes before and after it stay": the writer is lent the middle part of the output buffer, mutable.
+        events::write_sent(&mut out[place..end], 0, message);
+        return Some(n);
     }
     None
 }
