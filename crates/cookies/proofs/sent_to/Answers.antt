@@ -15,8 +15,8 @@ loop-i-init c = pick_start (search mapped) (ap (λ (j : Jar). j.rows) c.empty_ja
 pub loop-i-preserved : goal.loop-i-preserved
 loop-i-preserved c =
     elim c.if-goes_to.branch [
-      then-goes_to w ↦ rw (w.out-is, w.j-is, w.pair_of.ensures) (pick_takes c.loop-i.invariant c.row-row.ensures c.loop-i-test.true (sym c.goes_to.ensures ∙ w.if-goes_to.true))
-    | else-goes_to w ↦ rw (w.out-is, w.j-is) (pick_skips c.loop-i.invariant c.row-row.ensures c.loop-i-test.true (sym c.goes_to.ensures ∙ w.if-goes_to.false))
+      | then-goes_to w ↦ rw (w.out-is, w.j-is, w.pair_of.ensures) (pick_takes c.loop-i.invariant c.row-row.ensures c.loop-i-test.true (sym c.goes_to.ensures ∙ w.if-goes_to.true))
+      | else-goes_to w ↦ rw (w.out-is, w.j-is) (pick_skips c.loop-i.invariant c.row-row.ensures c.loop-i-test.true (sym c.goes_to.ensures ∙ w.if-goes_to.false))
     ]
 
 pub returns : goal.returns

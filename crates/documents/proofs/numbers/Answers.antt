@@ -17,8 +17,8 @@ loop-i-preserved g c =
     let v = c.loop-i.invariant in
     let post = goal.F-post g c.args.test c.row-row.result in
     elim c.if-test.branch [
-      then-test w ↦ rw (w.out-is, w.j-is) (omega (arith, v.0), length-set _ _ _ ∙ v.1, v.2, λ p d. gather_takes (v.3 p d) c.row-row.ensures c.loop-i-test.true (sym (d _ true (subst post w.if-test.true c.test.ensures))))
-    | else-test w ↦ rw (w.out-is, w.j-is) (omega (arith, v.0), v.1, v.2, λ p d. gather_skips (v.3 p d) c.row-row.ensures c.loop-i-test.true (sym (d _ false (subst post w.if-test.false c.test.ensures))))
+      | then-test w ↦ rw (w.out-is, w.j-is) (omega (arith, v.0), length-set _ _ _ ∙ v.1, v.2, λ p d. gather_takes (v.3 p d) c.row-row.ensures c.loop-i-test.true (sym (d _ true (subst post w.if-test.true c.test.ensures))))
+      | else-test w ↦ rw (w.out-is, w.j-is) (omega (arith, v.0), v.1, v.2, λ p d. gather_skips (v.3 p d) c.row-row.ensures c.loop-i-test.true (sym (d _ false (subst post w.if-test.false c.test.ensures))))
     ]
 
 pub returns : goal.returns

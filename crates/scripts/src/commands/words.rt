@@ -27,13 +27,27 @@ pub fn nothing(m: &mut Memory, s: Scene) -> Performed
 fn write_script(m: &mut Memory, n: DocumentNumber, v: Script)
     ensures { Carries (update documents (map (changing n (with_script v)))) [] [] m.old m.new true }
 {
-    Documents::revise(m, |d| if d.number == n { Document { script: v, ..d } } else { d });
+    Documents::revise(
+        m,
+        |d| if d.number == n {
+            Document { script: v, ..d }
+        } else {
+            d
+        },
+    );
 }
 
 fn write_state(m: &mut Memory, n: DocumentNumber, v: ScriptState)
     ensures { Carries (update documents (map (changing n (with_state v)))) [] [] m.old m.new true }
 {
-    Documents::revise(m, |d| if d.number == n { Document { state: v, ..d } } else { d });
+    Documents::revise(
+        m,
+        |d| if d.number == n {
+            Document { state: v, ..d }
+        } else {
+            d
+        },
+    );
 }
 
 // A7:52 to 55
