@@ -47,7 +47,7 @@ pub fn flag_of(tag: u32) -> bool
 pub fn flag(b: bool) -> u32
     ensures { flag_of result ≡ b }
 {
-    if b { 1 } else { 0 }
+    u32::from(b)
 }
 
 pub fn half(n: u32) -> u16
@@ -59,9 +59,10 @@ pub fn half(n: u32) -> u16
 pub fn low(n: u16) -> u32
     ensures { result % 65536 ≡ n }
 {
-    n as u32
+    u32::from(n)
 }
 
+// The number of a kind is written out beside the kind of a number: `as` would hide that each undoes the other.
 pub fn protocol_of(tag: u32) -> Protocol
     ensures { result ≡ protocol_of tag }
 {

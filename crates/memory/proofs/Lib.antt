@@ -1,5 +1,4 @@
 -- The laws of tables in a memory: the loops that move numbers; rows of numbers; what a change leaves alone; the loops over rows.
-pub mod Moves
 pub mod Chunks
 pub mod Table
 pub mod Parts

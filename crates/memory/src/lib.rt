@@ -44,9 +44,7 @@ pub fn carry(m: &mut Memory, p: usize, q: usize, w: usize)
     ensures { Carried m.old p q w m.new }
 {
     if q <= p && p <= TOTAL && w <= TOTAL - p {
-        for i in 0..w {
-            m[q + i] = m[p + i];
-        }
+        m.copy_within(p..p + w, q);
     }
 }
 
@@ -55,8 +53,6 @@ pub fn shift(m: &mut Memory, p: usize, e: usize, w: usize)
     ensures { Lifted m.old p e w m.new }
 {
     if p <= e && e <= TOTAL && w <= TOTAL - e {
-        for i in (p..e).rev() {
-            m[i + w] = m[i];
-        }
+        m.copy_within(p..e, p + w);
     }
 }
