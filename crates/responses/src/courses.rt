@@ -13,6 +13,7 @@ use types::answers::{Answer, Body, Location, Status};
 use types::commands::{Script, ScriptState};
 use types::rows::{Input, News};
 use types::{DocumentNumber, Matching, Reference, Url, WindowNumber};
+use words::statuses::{StatusKind, status_kind};
 
 // To the address that it names; into a window, at a spot in its history, with the new document's script and state;
 // to the document whose script asked, as an input; or nowhere.
@@ -33,7 +34,7 @@ pub enum Course {
 fn is_redirect(s: Status) -> bool
     ensures { result ≡ is_redirect s }
 {
-    matches!(s.0, 303 | 307)
+    status_kind(s.0) == Some(StatusKind::Redirects)
 }
 
 fn where_to(s: Status, l: Location) -> Option<Url>
