@@ -1,5 +1,5 @@
 // Readers of the parts that the messages and the choices of an item are made of. Each hands back a value and the position behind it,
-// which is past the end of the text where it found nothing. A script's command is one of them: 000 A7, lines 19 to 86; "one of HREF, IFRAME, FORM, SETSCRIPT,
+// or None where it found nothing. A script's command is one of them: 000 A7, lines 19 to 86; "one of HREF, IFRAME, FORM, SETSCRIPT,
 // SETSCRIPTSTATE, XMLHTTPREQUEST, BACK, FORWARD, CLOSE, POSTMESSAGE or nothing" (01 "What a step does").
 #![tactic(auto)]
 
