@@ -31,7 +31,7 @@ pub fn displayed(m: &Memory, w: WindowNumber) -> Display
     Ok((top, d))
 }
 
-// NAVBACK goes to the document before, NAVFORWARD to the document after.
+// NAVBACK goes to the document before, NAVFORWARD to the document after. An enum and no closure: the definitions go by the same two (specs/Directions).
 #[derive(Clone, Copy)]
 pub enum Towards {
     Before,

@@ -6,6 +6,7 @@ use super::single::{at, perhaps, perhaps_numbers};
 use types::rows::{Opener, Parent};
 use types::{DocumentNumber, KeyNumber, Seal, WindowNumber};
 
+// What the three share is `perhaps`; each has its own name, since the contracts of the tables speak of three nouns.
 pub fn parent_at(c: &[u32], p: usize) -> Parent
     ensures { result ≡ parent_of (take 2 (drop p c.now)) }
 {

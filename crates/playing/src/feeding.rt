@@ -46,6 +46,7 @@ pub fn play_all<R: Read, W: Write>(
     let mut window = [0u8; PORTION];
     let mut lines = [0u8; PORTION];
     let mut turns = TURNS;
+    // No `for`: what is still to come is counted down in what `turn` promises (specs/Told).
     while 0 < turns {
         run = turn(input, out, m, &mut window, &mut lines, run, loud)?;
         if run.over {

@@ -28,7 +28,7 @@ pub fn read_holder(s: &[u8], at: usize) -> Option<At<Holder>>
         .or_else(|| Some(read_window(s, at)?.map(Holder::Within)))
 }
 
-// () or a number
+// () or a number, which may be 0: of another kind than a fragment, which is from 1 on
 pub fn read_matching(s: &[u8], at: usize) -> Option<At<Matching>>
     ensures { Reads matching_of s.now at result }
 {

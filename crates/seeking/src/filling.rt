@@ -11,6 +11,7 @@ pub fn read_full<R: Read>(input: &mut R, buffer: &mut [u8]) -> io::Result<usize>
     ensures taken { IfOk result (λ n. Consumes (R.remaining input.old) (R.remaining input.new) (take n buffer.new)) }
 {
     let mut done = 0;
+    // No `for`: each read says how far it comes.
     while done < buffer.len() {
         let n = input.read(&mut buffer[done..])?;
         if n == 0 {

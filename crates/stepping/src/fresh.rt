@@ -28,23 +28,11 @@ fn absent(m: &Memory, l: Label) -> bool
         && PendingRequests::clean(m, l)
 }
 
-fn number(l: Label) -> u32
-    ensures { result ≡ (label_of l).1 }
-{
-    match l {
-        Label::OfWindow(n) => n.0,
-        Label::OfRequest(n) => n.0,
-        Label::OfDns(n) => n.0,
-        Label::OfKey(n) => n.0,
-        Label::OfDocument(n) => n.0,
-    }
-}
-
 // A number that is given, and 0 is none, stands nowhere.
 fn unused(m: &Memory, l: Label) -> bool
     ensures { result ≡ spare (view m.now) (label_of l) }
 {
-    number(l) == 0 || absent(m, l)
+    labels::number(l) == 0 || absent(m, l)
 }
 
 fn all_unused(m: &Memory, f: Fresh) -> bool

@@ -48,7 +48,7 @@ pub fn permitted(few: SetCookies, script: bool, p: Protocol) -> SetCookies
     kept(few, |c, _| may_set(script, p, c))
 }
 
-// Whether one of the cookies has a name, from one place on.
+// Whether one of the cookies has a name, from one place on. A `for`, no chain: `iter().take().skip().any()` is no plainer, and left a goal.
 fn named_from(few: SetCookies, from: usize, name: CookieName) -> bool
     ensures { result ≡ named name (drop from (cookies_in few)) }
 {

@@ -7,14 +7,14 @@ pub struct Script(pub u32);
 #[derive(Clone, Copy)]
 pub struct ScriptState(pub u32);
 
-// Where a page is to be loaded: into a new window (`_BLANK`, and urlbar's `new`) or into one that is there.
+// Where a page is to be loaded: into a new window (`_BLANK`, and urlbar's `new`) or into one that is there. No Option: a None would not say that a window is made.
 #[derive(Clone, Copy)]
 pub enum Target {
     NewWindow,
     Existing(WindowNumber),
 }
 
-// Under which window a frame is hung: the script's own (`_SELF`, or `SELF`) or another.
+// Under which window a frame is hung: the script's own (`_SELF`, or `SELF`) or another. No Option: a None would not say whose.
 #[derive(Clone, Copy)]
 pub enum Holder {
     Itself,

@@ -26,7 +26,7 @@ pub struct Pair {
     pub value: CookieValue,
 }
 
-// The cookies of one answer or of one script step. In an item those past the count are blank, so that two equal lists are equal values; of what is merged only
+// The cookies of one answer or of one script step: an array and a count, since nothing is allocated (a rule of the project). In an item those past the count are blank, so that two equal lists are equal values; of what is merged only
 // the first `count` say something.
 #[derive(Clone, Copy)]
 pub struct SetCookies {
@@ -34,7 +34,7 @@ pub struct SetCookies {
     pub count: usize,
 }
 
-// A request's Cookie header, as many as the cookie table has rows for. Those past the count are blank.
+// A request's Cookie header, as many as the cookie table has rows for: an array and a count, since nothing is allocated. Those past the count are blank.
 #[derive(Clone, Copy)]
 pub struct Jar {
     pub rows: [Pair; 64],

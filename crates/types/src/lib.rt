@@ -58,14 +58,14 @@ pub struct Wants {
     pub document: bool,
 }
 
-// Some windows, by number: as many as there may be, and one more. The first `count` count, and a count beyond the room for them is read as that.
+// Some windows, by number, in an array beside a count, since nothing is allocated: as many as there may be, and one more. The first `count` count, and a count beyond the room for them is read as that.
 #[derive(Clone, Copy)]
 pub struct WindowNumbers {
     pub rows: [WindowNumber; 33],
     pub count: usize,
 }
 
-// Some documents, by number: as many as there may be.
+// Some documents, by number, in an array beside a count, since nothing is allocated: as many as there may be.
 #[derive(Clone, Copy)]
 pub struct DocumentNumbers {
     pub rows: [DocumentNumber; 64],
