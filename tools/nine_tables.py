@@ -18,7 +18,7 @@ windows = Table('windows', 'Windows', 'windows_in', 'Window', 'window_of', ('WIN
     ('number', Number('WindowNumber')),
     ('parent', Part('Parent', 2, 'parent')),
     ('opener', Part('Opener', 2, 'opener')),
-], Key('WindowNumber', 'h.number', 'ℕ', 'key.0', ['{k}.0 as u64']), 'The windows, by number', 'by number',
+], Key('WindowNumber', 'h.number', 'ℕ', 'key.0', ['{k}.0']), 'The windows, by number', 'by number',
     mentions='l == Label::OfWindow(h.number) || labels::in_parent(l, h.parent) || labels::in_opener(l, h.opener)',
     gated={'a_33rd_window_taken': ('const CAPACITY: usize = WINDOWS;', 'const CAPACITY: usize = WINDOWS + 1;')},
     edits=forgets('l == Label::OfWindow(h.number)', 'Label::OfWindow(h.number)',
@@ -69,7 +69,7 @@ documents = Table('documents', 'Documents', 'documents_in', 'Document', 'documen
     ('script', Number('Script')),
     ('state', Number('ScriptState')),
     ('active', Flag()),
-], Key('(WindowNumber, u32)', '(h.window, h.place)', 'ℕ × ℕ', '(key.0.0, key.1)', ['{k}.0.0 as u64', '{k}.1 as u64']), 'The documents, by window and place in its history',
+], Key('(WindowNumber, u32)', '(h.window, h.place)', 'ℕ × ℕ', '(key.0.0, key.1)', ['{k}.0.0', '{k}.1']), 'The documents, by window and place in its history',
     'by window and place in its history', mentions='l == Label::OfWindow(h.window) || l == Label::OfDocument(h.number)', offered=NUMBERS, more={'specs/Told.antt': NUMBER_OF},
     edits=forgets('l == Label::OfWindow(h.window)', 'Label::OfWindow(h.window)', a_document_is_forgotten=('l == Label::OfDocument(h.number)', 'l == Label::OfWindow(h.window)')) | {
         'numbers_counts_every_place': ('out.count = j;', 'out.count = 64;'),
@@ -233,7 +233,7 @@ cookies = Table('cookies', 'Cookies', 'host_cookies_in', 'HostCookie', 'host_coo
         ('session', Flag()),
         ('httponly', Flag()),
     ])),
-], Key('(Host, CookieName)', '(h.host, h.cookie.name)', 'ℕ × (Bool × ℕ)', '(key.0.0, (key.1.prefixed, key.1.number))', ['{k}.0.0 as u64', '!{k}.1.prefixed', '{k}.1.number as u64']),
+], Key('(Host, CookieName)', '(h.host, h.cookie.name)', 'ℕ × (Bool × ℕ)', '(key.0.0, (key.1.prefixed, key.1.number))', ['{k}.0.0', '!{k}.1.prefixed', '{k}.1.number']),
     'The cookies, by host and name', 'by host and name', offered=COOKIES_DO,
     more={'specs/Sent.antt': SENT_SPECS, 'specs/Filled.antt': FILLED_SPECS, 'proofs/Filled.antt': FILLED_LAWS}, edits={
         'sent_to_leaves_gaps': ('out.rows[j] = labels::pair_of(row);', 'out.rows[i] = labels::pair_of(row);'),
@@ -248,7 +248,7 @@ cookies = Table('cookies', 'Cookies', 'host_cookies_in', 'HostCookie', 'host_coo
 local_storage = Table('local_storage', 'LocalStorage', 'local_in', 'LocalValue', 'local_value_of', ('LOCAL_STORAGE', 32), [
     ('origin', SITE),
     ('value', Number('Stored')),
-], Key('Origin', 'h.origin', 'ℕ × Bool', '(key.host.0, is_secure key.protocol)', ['{k}.host.0 as u64', '!labels::is_secure({k}.protocol)']),
+], Key('Origin', 'h.origin', 'ℕ × Bool', '(key.host.0, is_secure key.protocol)', ['{k}.host.0', '!labels::is_secure({k}.protocol)']),
     'What scripts keep in local storage, by origin', 'by origin', component='localStorage')
 
 session_storage = Table('session_storage', 'SessionStorage', 'session_in', 'SessionValue', 'session_value_of', ('SESSION_STORAGE', 32), [
@@ -256,7 +256,7 @@ session_storage = Table('session_storage', 'SessionStorage', 'session_in', 'Sess
     ('top', Number('WindowNumber')),
     ('value', Number('Stored')),
 ], Key('(Origin, WindowNumber)', '(h.origin, h.top)', 'ℕ × (Bool × ℕ)', '(key.0.host.0, (is_secure key.0.protocol, key.1.0))',
-       ['{k}.0.host.0 as u64', '!labels::is_secure({k}.0.protocol)', '{k}.1.0 as u64']),
+       ['{k}.0.host.0', '!labels::is_secure({k}.0.protocol)', '{k}.1.0']),
     'What scripts keep in session storage, by origin and top-level window', 'by origin and top-level window', component='sessionStorage',
     mentions='l == Label::OfWindow(h.top)', edits=forgets('l == Label::OfWindow(h.top)', 'Label::OfWindow(h.top)',
                                                           a_session_row_is_forgotten=('l == Label::OfWindow(h.top)', 'l == Label::OfWindow(WindowNumber(0))')))
@@ -267,7 +267,7 @@ inputs = Table('inputs', 'Inputs', 'inputs_in', 'Input', 'input_of', ('INPUTS', 
     ('document', Number('DocumentNumber')),
     ('arrival', Plain()),
     ('news', Part('News', 6, 'news')),
-], Key('(DocumentNumber, u32)', '(h.document, h.arrival)', 'ℕ × ℕ', '(key.0.0, key.1)', ['{k}.0.0 as u64', '{k}.1 as u64']), 'The inputs of scripts, by document and arrival',
+], Key('(DocumentNumber, u32)', '(h.document, h.arrival)', 'ℕ × ℕ', '(key.0.0, key.1)', ['{k}.0.0', '{k}.1']), 'The inputs of scripts, by document and arrival',
     'by document and arrival', mentions='l == Label::OfDocument(h.document) || labels::in_news(l, h.news)',
     edits=forgets('l == Label::OfDocument(h.document)', 'Label::OfDocument(h.document)',
                   a_sender_is_forgotten=('labels::in_news(l, h.news)', 'labels::in_news(l, types::rows::News::Answered(None, types::answers::Body::Number(0)))')))
@@ -292,7 +292,7 @@ pending_dns = Table('pending_dns', 'PendingDns', 'questions_in', 'Question', 'qu
     ('reference', REFERENCE),
     ('request', REQUEST),
     ('url', URL),
-], Key('DnsNumber', 'h.number', 'ℕ', 'key.0', ['{k}.0 as u64'], 'λ h. h.number.0'), "The requests that wait for their host's address, by number",
+], Key('DnsNumber', 'h.number', 'ℕ', 'key.0', ['{k}.0'], 'λ h. h.number.0'), "The requests that wait for their host's address, by number",
     'by dns number; behind its head each row has its Cookie header', component='pendingDNS',
     mentions='l == Label::OfDns(h.number) || l == Label::OfRequest(h.request) || labels::in_reference(l, h.reference)',
     head=[('number', 'number'), ('reference', 'reference'), ('request', 'request.number')], meanings="""
@@ -307,7 +307,7 @@ pending_requests = Table('pending_requests', 'PendingRequests', 'requests_in', '
     ('url', URL),
     ('seal', Part('Seal', 2, 'seal')),
     ('address', Half('Address')),
-], Key('RequestNumber', 'h.request', 'ℕ', 'key.0', ['{k}.0 as u64'], 'λ h. h.request.0'), 'The requests that wait for their answer, by number',
+], Key('RequestNumber', 'h.request', 'ℕ', 'key.0', ['{k}.0'], 'λ h. h.request.0'), 'The requests that wait for their answer, by number',
     'by request number; behind its head each row has its Cookie header', component='pendingRequests',
     mentions='l == Label::OfRequest(h.request) || labels::in_seal(l, h.seal) || labels::in_reference(l, h.reference)',
     head=[('reference', 'reference'), ('request', 'request.number'), ('seal', 'seal')], meanings="""
@@ -326,7 +326,7 @@ pub fn strict(m: &Memory, h: Host) -> bool
     Sts::get(m, h).is_some()
 }
 """
-sts = Table('sts', 'Sts', 'sts_in', 'StrictHost', 'strict_host_of', ('STS', 32), [('host', Half('Host'))], Key('Host', 'h.host', 'ℕ', 'key.0', ['{k}.0 as u64']),
+sts = Table('sts', 'Sts', 'sts_in', 'StrictHost', 'strict_host_of', ('STS', 32), [('host', Half('Host'))], Key('Host', 'h.host', 'ℕ', 'key.0', ['{k}.0']),
             'The hosts that are spoken to over S alone', 'by host', offered=STRICT, edits={
                 'strict_asks_for_the_others': ('Sts::get(m, h).is_some()', 'Sts::get(m, h).is_none()'),
                 'strict_asks_for_another_host': ('Sts::get(m, h).is_some()', 'Sts::get(m, Host(0)).is_some()'),

@@ -107,11 +107,8 @@ class Key:
     seen: str = None          # that of a head in the definitions, where it is not the row's
 
     def compared(self):
-        each = [f'sorted::compare_bools({p[1:]})' if p[0] == '!' else f'sorted::compare({p})' for p in (f'{("!" if p[0] == "!" else "")}{p.lstrip("!").format(k="a")}, {p.lstrip("!").format(k="b")}' for p in self.parts)]
-        out = each[-1]
-        for e in reversed(each[:-1]):
-            out = f'sorted::then({e}, {out})'
-        return out
+        each = ['{}.cmp(&{})'.format(part.lstrip('!').format(k='a'), part.lstrip('!').format(k='b')) for part in self.parts]
+        return each[0] + ''.join(f'.then({e})' for e in each[1:])
 
 
 @dataclass
@@ -235,7 +232,7 @@ impl Table for @Type@ {
         @keycode@
     }
 
-    fn order(a: @Key@, b: @Key@) -> Order {
+    fn order(a: @Key@, b: @Key@) -> Ordering {
         @compared@
     }
 
@@ -312,7 +309,7 @@ HEADER_ANSWERS = {
 
 # What the code, the contracts and the definitions cite: of each line only the names that occur in the file are written.
 USES = {
-    'sorted': ['Order'], 'rows': ['Labelled', 'Table'], 'memory': ['Memory'],
+    'std::cmp': ['Ordering'], 'rows': ['Labelled', 'Table'], 'memory': ['Memory'],
     'types': ['Address', 'Data', 'Host', 'Origin', 'Parameters', 'Path', 'Protocol', 'Request', 'DnsNumber', 'DocumentNumber', 'DocumentNumbers', 'KeyNumber',
               'Label', 'RequestNumber', 'Url', 'WindowNumber', 'Method', 'OriginHeader', 'Policy', 'Reference', 'Referrer', 'Seal'],
     'types::commands': ['Script', 'ScriptState'],

@@ -15,7 +15,7 @@ ghost use Rattle.cookies.specs.Filled.{PutAll};
 
 use memory::Memory;
 use rows::Table;
-use sorted::Order;
+use std::cmp::Ordering;
 use types::cookies::{Cookie, CookieName, CookieValue, Jar, SetCookies};
 use types::rows::HostCookie;
 use types::{Host, Protocol};
@@ -93,14 +93,11 @@ impl Table for Cookies {
         (h.host, h.cookie.name)
     }
 
-    fn order(a: (Host, CookieName), b: (Host, CookieName)) -> Order {
-        sorted::then(
-            sorted::compare(a.0.0 as u64, b.0.0 as u64),
-            sorted::then(
-                sorted::compare_bools(a.1.prefixed, b.1.prefixed),
-                sorted::compare(a.1.number as u64, b.1.number as u64),
-            ),
-        )
+    fn order(a: (Host, CookieName), b: (Host, CookieName)) -> Ordering {
+        a.0.0
+            .cmp(&b.0.0)
+            .then(a.1.prefixed.cmp(&b.1.prefixed))
+            .then(a.1.number.cmp(&b.1.number))
     }
 
     ghost fits = { Prim.search rules };

@@ -17,7 +17,7 @@ ghost use Rattle.documents.specs.Told.{number_of};
 
 use memory::Memory;
 use rows::{Labelled, Table};
-use sorted::Order;
+use std::cmp::Ordering;
 use types::commands::{Script, ScriptState};
 use types::rows::Document;
 use types::{DocumentNumber, DocumentNumbers, Label, WindowNumber};
@@ -93,11 +93,8 @@ impl Table for Documents {
         (h.window, h.place)
     }
 
-    fn order(a: (WindowNumber, u32), b: (WindowNumber, u32)) -> Order {
-        sorted::then(
-            sorted::compare(a.0.0 as u64, b.0.0 as u64),
-            sorted::compare(a.1 as u64, b.1 as u64),
-        )
+    fn order(a: (WindowNumber, u32), b: (WindowNumber, u32)) -> Ordering {
+        a.0.0.cmp(&b.0.0).then(a.1.cmp(&b.1))
     }
 
     ghost fits = { Prim.search rules };

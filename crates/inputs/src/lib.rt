@@ -9,7 +9,7 @@ ghost use Rattle.rows.proofs.Clean.{clean_where_none};
 ghost use Rattle.layouts.specs.Rows.{input_of};
 
 use rows::{Labelled, Table};
-use sorted::Order;
+use std::cmp::Ordering;
 use types::rows::Input;
 use types::{DocumentNumber, Label};
 
@@ -78,11 +78,8 @@ impl Table for Inputs {
         (h.document, h.arrival)
     }
 
-    fn order(a: (DocumentNumber, u32), b: (DocumentNumber, u32)) -> Order {
-        sorted::then(
-            sorted::compare(a.0.0 as u64, b.0.0 as u64),
-            sorted::compare(a.1 as u64, b.1 as u64),
-        )
+    fn order(a: (DocumentNumber, u32), b: (DocumentNumber, u32)) -> Ordering {
+        a.0.0.cmp(&b.0.0).then(a.1.cmp(&b.1))
     }
 
     ghost fits = { Prim.search rules };

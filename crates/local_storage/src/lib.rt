@@ -7,7 +7,7 @@ ghost use Rattle.tables.specs.Tables.{local_storage, key_of, cmp, is_secure};
 ghost use Rattle.layouts.specs.Rows.{local_value_of};
 
 use rows::Table;
-use sorted::Order;
+use std::cmp::Ordering;
 use types::Origin;
 use types::items::Stored;
 use types::rows::LocalValue;
@@ -76,11 +76,10 @@ impl Table for LocalStorage {
         h.origin
     }
 
-    fn order(a: Origin, b: Origin) -> Order {
-        sorted::then(
-            sorted::compare(a.host.0 as u64, b.host.0 as u64),
-            sorted::compare_bools(labels::is_secure(a.protocol), labels::is_secure(b.protocol)),
-        )
+    fn order(a: Origin, b: Origin) -> Ordering {
+        a.host.0.cmp(&b.host.0).then(labels::is_secure(a.protocol).cmp(&labels::is_secure(
+            b.protocol,
+        )))
     }
 
     ghost fits = { Prim.search rules };

@@ -4,7 +4,7 @@ use mathlib.Core.Bool.{true, false}
 use mathlib.Core.List.{List, []}
 use Prim.Native.Nat.{ℕ, ◌+◌, ◌<◌}
 use lib.ListN.{get_or}
-use Rattle.sorted.specs.declared.Order.{Order}
+use Rattle.std.specs.declared.cmp.Ordering.{Ordering as Order}
 use Rattle.sorted.specs.Order.{same, after}
 use Rattle.memory.specs.Rows.{Layout, rows, Read, Glimpsed, Found}
 use Rattle.memory.proofs.Loops.{Searching, search_next, search_hit}

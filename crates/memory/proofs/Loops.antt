@@ -9,7 +9,7 @@ use native.Mathlib.Nat.{mul-le-mul_right}
 use native.Mathlib.Omega.{arith}
 use lib.ListN.{length, get_or, take, drop, set, length-drop}
 use lib.Seq.{length-take-le, take-take}
-use Rattle.sorted.specs.declared.Order.{Order}
+use Rattle.std.specs.declared.cmp.Ordering.{Ordering as Order}
 use Rattle.sorted.specs.Order.{same, after}
 use Rattle.sorted.specs.Table.{find, stand, opened}
 use Rattle.sorted.proofs.First.{Finding, find-start, find-next, find-hit, find-end}

@@ -6,7 +6,7 @@ use Prim.Native.Nat.{ℕ, ◌+◌, ◌-◌, ◌≤◌, ◌<◌}
 use native.Mathlib.Omega.{arith}
 use lib.ListN.{length, take, drop, set, length-drop, take-append-drop}
 use lib.Seq.{length-take-le, take-take, drop-drop, take_at, drop_at}
-use Rattle.sorted.specs.declared.Order.{Order}
+use Rattle.std.specs.declared.cmp.Ordering.{Ordering as Order}
 use Rattle.sorted.specs.Table.{stand}
 use Rattle.sorted.proofs.Open.{put_full}
 use Rattle.memory.specs.Rows.{Layout, Within, over, shifted, place, end, rows, Found, Put, Written, Cleared}

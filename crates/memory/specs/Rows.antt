@@ -1,6 +1,6 @@
 -- Tables in a memory of numbers: a count, and behind it the rows, `width` numbers each.
 use Rattle.std.specs.Prelude.{◌≡◌, Bool, false, List, [], ◌∷◌, ◌++◌, map, ℕ, zero, suc, ◌+◌, ◌*◌, ◌-◌, ◌≤◌, ◌<◌, length, get_or, take, drop}
-use Rattle.sorted.specs.declared.Order.{Order}
+use Rattle.std.specs.declared.cmp.Ordering.{Ordering as Order}
 use Rattle.sorted.specs.Table.{keep, insert, Sought, Offered}
 
 -- how many numbers a memory has

@@ -1,20 +1,13 @@
 // A memory of numbers that is lent, and rows of numbers in it moved about. Nothing here knows what the numbers say.
 #![tactic(auto)]
 
-ghost use Rattle.std.specs.Prelude.{◌≡◌, min, length, get_or};
-ghost use Rattle.memory.specs.Rows.{total, Stored, Carried, Lifted};
+ghost use Rattle.std.specs.Prelude.{◌≡◌, min, get_or};
+ghost use Rattle.memory.specs.Rows.{Stored, Carried, Lifted};
 
 // Room for the nine tables, and behind them for what a browser has beside its tables.
 pub const TOTAL: usize = 10240;
 
 pub type Memory = [u32; TOTAL];
-
-// A memory is whole: the prover learns a reference's length only from a slice made of it. Nothing is left of this in the program.
-pub fn whole(m: &Memory)
-    ensures { length m.now ≡ total }
-{
-    let s = &m[..];
-}
 
 // One number; beyond the end there are zeros.
 pub fn get(m: &Memory, i: usize) -> u32

@@ -14,7 +14,7 @@ ghost use Rattle.layouts.specs.Rows.{question_of, question_of_with};
 
 pub use heads::Head;
 use rows::{Labelled, Table};
-use sorted::Order;
+use std::cmp::Ordering;
 use types::rows::Question;
 use types::{Data, DnsNumber, Host, Label, Parameters, Path, Request, RequestNumber};
 
@@ -100,8 +100,8 @@ impl Table for PendingDns {
         h.number
     }
 
-    fn order(a: DnsNumber, b: DnsNumber) -> Order {
-        sorted::compare(a.0 as u64, b.0 as u64)
+    fn order(a: DnsNumber, b: DnsNumber) -> Ordering {
+        a.0.cmp(&b.0)
     }
 
     ghost fits = { Prim.search rules };

@@ -14,7 +14,7 @@ ghost use Rattle.layouts.specs.Rows.{waiting_of, waiting_of_with};
 
 pub use heads::Head;
 use rows::{Labelled, Table};
-use sorted::Order;
+use std::cmp::Ordering;
 use types::rows::Waiting;
 use types::{Address, Data, Host, Label, Parameters, Path, Request, RequestNumber};
 
@@ -101,8 +101,8 @@ impl Table for PendingRequests {
         h.request
     }
 
-    fn order(a: RequestNumber, b: RequestNumber) -> Order {
-        sorted::compare(a.0 as u64, b.0 as u64)
+    fn order(a: RequestNumber, b: RequestNumber) -> Ordering {
+        a.0.cmp(&b.0)
     }
 
     ghost fits = { Prim.search rules };

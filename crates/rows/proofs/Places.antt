@@ -6,8 +6,8 @@ use Prim.Native.Nat.{ℕ, ◌+◌, ◌≤◌, ◌<◌}
 use native.Mathlib.Nat.{mul-le-mul_right}
 use native.Mathlib.Omega.{arith}
 use lib.ListN.{length, set}
-use Rattle.sorted.specs.declared.Order.{Order}
-use Rattle.sorted.specs.declared.Order.TheVariants.{Before, Same, After}
+use Rattle.std.specs.declared.cmp.Ordering.{Ordering as Order}
+use Rattle.std.specs.declared.cmp.Ordering.TheVariants.{Less as Before, Equal as Same, Greater as After}
 use Rattle.sorted.specs.Order.{same, after}
 use Rattle.sorted.proofs.Never.{never}
 use Rattle.memory.specs.Rows.{total, Layout, table, place, end, shifted, Glimpsed, Found, Put, Written, Lifted}

@@ -5,7 +5,7 @@ mod cells; // where the numbers of a row lie
 mod labelled; // tables whose rows speak of windows, documents, requests
 
 ghost use Rattle.std.specs.Prelude.{◌≡◌, Bool, not, List, ℕ, ◌+◌, ◌*◌, ◌≤◌, length, is_ok};
-ghost use Rattle.sorted.specs.declared.Order.{Order};
+ghost use Rattle.std.specs.declared.cmp.Ordering.{Ordering as Order};
 ghost use Rattle.sorted.specs.Order.{same};
 ghost use Rattle.sorted.specs.Table.{find, keep, at};
 ghost use Rattle.memory.specs.Rows.{table, total, Read, Glimpsed, Found, Kept, Put, Revised, Cleared};
@@ -14,6 +14,7 @@ ghost use Rattle.rows.specs.Tables.{laid, Decides, Makes, place_of};
 use cells::{cells, place, write_at};
 pub use labelled::Labelled;
 use memory::Memory;
+use std::cmp::Ordering;
 
 pub trait Table {
     type Row: Copy;
@@ -69,7 +70,7 @@ pub trait Table {
     fn key(h: Self::Head) -> Self::Key
         ensures { sort result ≡ key_of h };
 
-    fn order(a: Self::Key, b: Self::Key) -> sorted::Order
+    fn order(a: Self::Key, b: Self::Key) -> Ordering
         ensures { result ≡ cmp (sort a) (sort b) };
 
     ghost fits: { COUNT + 1 + CAPACITY * WIDTH ≤ total };
@@ -116,7 +117,7 @@ pub trait Table {
     final fn get(m: &Memory, key: Self::Key) -> Option<Self::Row>
         ensures { result ≡ at (λ r. key_of (head_of r)) cmp (sort key) (table (laid COUNT WIDTH CAPACITY decode) m.now) }
     {
-        Self::first(m, |h| sorted::same(Self::order(key, Self::key(h))))
+        Self::first(m, |h| Self::order(key, Self::key(h)).is_eq())
     }
 
     // How many rows pass a test.
@@ -154,7 +155,7 @@ pub trait Table {
     final fn remove(m: &mut Memory, key: Self::Key)
         ensures { Kept (laid COUNT WIDTH CAPACITY decode) (λ r. not (same (cmp (sort key) (key_of (head_of r))))) m.old m.new }
     {
-        Self::keep(m, |h| !sorted::same(Self::order(key, Self::key(h))));
+        Self::keep(m, |h| !Self::order(key, Self::key(h)).is_eq());
     }
 
     // The place of the first row that does not stand before a key: Ok where that row has the key.
@@ -163,12 +164,10 @@ pub trait Table {
     {
         let n = Self::size(m);
         for i in 0..n {
-            let o = Self::order(key, Self::key(Self::head_at(m, i)));
-            if sorted::same(o) {
-                return Ok(i);
-            }
-            if !sorted::after(o) {
-                return Err(i);
+            match Self::order(key, Self::key(Self::head_at(m, i))) {
+                Ordering::Greater => {}
+                Ordering::Equal => return Ok(i),
+                Ordering::Less => return Err(i),
             }
         }
         Err(n)

@@ -9,7 +9,7 @@ ghost use Rattle.rows.proofs.Clean.{clean_where_none};
 ghost use Rattle.layouts.specs.Rows.{session_value_of};
 
 use rows::{Labelled, Table};
-use sorted::Order;
+use std::cmp::Ordering;
 use types::items::Stored;
 use types::rows::SessionValue;
 use types::{Label, Origin, WindowNumber};
@@ -79,17 +79,12 @@ impl Table for SessionStorage {
         (h.origin, h.top)
     }
 
-    fn order(a: (Origin, WindowNumber), b: (Origin, WindowNumber)) -> Order {
-        sorted::then(
-            sorted::compare(a.0.host.0 as u64, b.0.host.0 as u64),
-            sorted::then(
-                sorted::compare_bools(
-                    labels::is_secure(a.0.protocol),
-                    labels::is_secure(b.0.protocol),
-                ),
-                sorted::compare(a.1.0 as u64, b.1.0 as u64),
-            ),
-        )
+    fn order(a: (Origin, WindowNumber), b: (Origin, WindowNumber)) -> Ordering {
+        a.0.host
+            .0
+            .cmp(&b.0.host.0)
+            .then(labels::is_secure(a.0.protocol).cmp(&labels::is_secure(b.0.protocol)))
+            .then(a.1.0.cmp(&b.1.0))
     }
 
     ghost fits = { Prim.search rules };

@@ -9,8 +9,8 @@ use native.Mathlib.Omega.{arith}
 use borrow.Author.Tests.{leb-false, lt-leb}
 use lib.Dec.{leb}
 use lib.ListN.{length}
-use Rattle.sorted.specs.declared.Order.{Order}
-use Rattle.sorted.specs.declared.Order.TheVariants.{Before, Same, After}
+use Rattle.std.specs.declared.cmp.Ordering.{Ordering as Order}
+use Rattle.std.specs.declared.cmp.Ordering.TheVariants.{Less as Before, Equal as Same, Greater as After}
 use Rattle.sorted.specs.Order.{same}
 use Rattle.sorted.specs.Table.{In, Edit, put, drop, sift, place, insert, act, acts}
 use Rattle.sorted.proofs.Member.{in_keep, length_keep}

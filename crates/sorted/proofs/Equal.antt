@@ -4,8 +4,8 @@ use mathlib.Core.Logic.{◌⊎◌, inl, inr}
 use mathlib.Core.Bool.{Bool, true, false, cond}
 use mathlib.Core.List.{List, [], ◌∷◌}
 use Rattle.std.specs.Prelude.{None as none, Some as some}
-use Rattle.sorted.specs.declared.Order.{Order}
-use Rattle.sorted.specs.declared.Order.TheVariants.{Before, Same, After}
+use Rattle.std.specs.declared.cmp.Ordering.{Ordering as Order}
+use Rattle.std.specs.declared.cmp.Ordering.TheVariants.{Less as Before, Equal as Same, Greater as After}
 use Rattle.sorted.specs.Order.{same, Linear}
 use Rattle.sorted.specs.Table.{find, In, Edit, put, Sorted, at, insert, act, acts}
 use Rattle.sorted.proofs.Never.{never}

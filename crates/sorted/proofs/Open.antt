@@ -10,8 +10,8 @@ use borrow.Author.Tests.{le-leb, lt-leb}
 use lib.Dec.{leb}
 use lib.ListN.{length, get_or, take, drop, set, length-set, length-append, length-take, length-drop}
 use lib.Seq.{drop-cons, take-suc-set, drop-set-lt, take_all, take-append-le, take-set-lt, take-take, append_snoc}
-use Rattle.sorted.specs.declared.Order.{Order}
-use Rattle.sorted.specs.declared.Order.TheVariants.{Before, Same, After}
+use Rattle.std.specs.declared.cmp.Ordering.{Ordering as Order}
+use Rattle.std.specs.declared.cmp.Ordering.TheVariants.{Less as Before, Equal as Same, Greater as After}
 use Rattle.sorted.specs.Order.{same, after}
 use Rattle.sorted.specs.Table.{opened, lower, has, insert, place, stand, Sought, Offered}
 use Rattle.sorted.proofs.Seek.{hit-below, lower-within}

@@ -7,7 +7,7 @@ use native.Mathlib.Omega.{arith}
 use borrow.Author.Tests.{leb-true, le-leb}
 use lib.Dec.{leb}
 use lib.ListN.{length, get_or, take, drop}
-use Rattle.sorted.specs.declared.Order.{Order}
+use Rattle.std.specs.declared.cmp.Ordering.{Ordering as Order}
 use Rattle.sorted.specs.Table.{put, insert, acts, Offered}
 use Rattle.sorted.proofs.Edits.{puts-only, no_room}
 use Rattle.sorted.proofs.Count.{all-rows, next_row, no_row}

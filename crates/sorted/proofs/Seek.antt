@@ -6,7 +6,7 @@ use Prim.Native.Nat.{ℕ, suc, zero-le, suc-le-suc, ◌+◌, ◌≤◌, ◌<◌,
 use native.Mathlib.Nat.{add-zero, zero-add}
 use native.Mathlib.Omega.{arith}
 use lib.ListN.{length, get_or, take, drop}
-use Rattle.sorted.specs.declared.Order.{Order}
+use Rattle.std.specs.declared.cmp.Ordering.{Ordering as Order}
 use Rattle.sorted.specs.Order.{same, after}
 use Rattle.sorted.specs.Table.{lower, has, Sought}
 use Rattle.sorted.proofs.Count.{all-rows, row_count, next_row, no_row}

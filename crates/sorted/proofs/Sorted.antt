@@ -3,8 +3,8 @@ use mathlib.Core.Path.{◌≡◌, refl, ◌∙◌, ap}
 use mathlib.Core.Logic.{◌⊎◌, inl, inr}
 use mathlib.Core.Bool.{Bool, true, false, cond, not}
 use mathlib.Core.List.{List, [], ◌∷◌}
-use Rattle.sorted.specs.declared.Order.{Order}
-use Rattle.sorted.specs.declared.Order.TheVariants.{Before, Same, After}
+use Rattle.std.specs.declared.cmp.Ordering.{Ordering as Order}
+use Rattle.std.specs.declared.cmp.Ordering.TheVariants.{Less as Before, Equal as Same, Greater as After}
 use Rattle.sorted.specs.Order.{same, Linear}
 use Rattle.sorted.specs.Table.{keep, In, Edit, put, drop, sift, Sorted, place, insert, act, acts}
 use Rattle.sorted.proofs.Member.{in_keep}

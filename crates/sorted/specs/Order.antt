@@ -1,7 +1,7 @@
 -- The order of keys, by one comparison.
 use Rattle.std.specs.Prelude.{◌≡◌, Bool, true, false, cond, ℕ, ltb}
-use Rattle.sorted.specs.declared.Order.{Order}
-use Rattle.sorted.specs.declared.Order.TheVariants.{Before, Same, After}
+use Rattle.std.specs.declared.cmp.Ordering.{Ordering as Order}
+use Rattle.std.specs.declared.cmp.Ordering.TheVariants.{Less as Before, Equal as Same, Greater as After}
 
 abbrev pub cmpℕ : ℕ → ℕ → Order
 cmpℕ x y = cond (ltb x y) Before (cond (ltb y x) After Same)

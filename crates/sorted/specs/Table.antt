@@ -1,8 +1,8 @@
 -- Tables: lists of rows in rising order of a key, over any row and key.
 use Rattle.std.specs.Prelude.{◌≡◌, ◌⊎◌, Bool, true, false, cond, not, List, [], ◌∷◌, ◌++◌, ℕ, zero, suc, leb, length, take, drop as behind}
 use Rattle.std.specs.Prelude.{Option, None as none, Some as some}
-use Rattle.sorted.specs.declared.Order.{Order}
-use Rattle.sorted.specs.declared.Order.TheVariants.{Before, Same, After}
+use Rattle.std.specs.declared.cmp.Ordering.{Ordering as Order}
+use Rattle.std.specs.declared.cmp.Ordering.TheVariants.{Less as Before, Equal as Same, Greater as After}
 use Rattle.sorted.specs.Order.{same, after}
 
 -- ROWS OF ANY LIST.

@@ -11,7 +11,7 @@ ghost use Rattle.layouts.specs.Rows.{strict_host_of};
 
 use memory::Memory;
 use rows::Table;
-use sorted::Order;
+use std::cmp::Ordering;
 use types::Host;
 use types::rows::StrictHost;
 
@@ -78,8 +78,8 @@ impl Table for Sts {
         h.host
     }
 
-    fn order(a: Host, b: Host) -> Order {
-        sorted::compare(a.0 as u64, b.0 as u64)
+    fn order(a: Host, b: Host) -> Ordering {
+        a.0.cmp(&b.0)
     }
 
     ghost fits = { Prim.search rules };

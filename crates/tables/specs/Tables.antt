@@ -1,6 +1,6 @@
 -- The nine tables in 01's order: rows, keys, orders, sizes (01 "Numbers, names, sizes"), and what a table is changed by.
 use Rattle.std.specs.Prelude.{Bool, true, false, List, [], ℕ}
-use Rattle.sorted.specs.declared.Order.{Order}
+use Rattle.std.specs.declared.cmp.Ordering.{Ordering as Order}
 use Rattle.sorted.specs.Order.{cmpℕ, cmp_bool, lex}
 use Rattle.sorted.specs.Table.{Edit, acts}
 use Rattle.tables.specs.Nouns.{Protocol, Plain, Secure, Window, Document, HostCookie, LocalValue, SessionValue, Input, Question, Waiting, StrictHost}

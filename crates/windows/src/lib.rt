@@ -9,7 +9,7 @@ ghost use Rattle.rows.proofs.Clean.{clean_where_none};
 ghost use Rattle.layouts.specs.Rows.{window_of};
 
 use rows::{Labelled, Table};
-use sorted::Order;
+use std::cmp::Ordering;
 use types::rows::Window;
 use types::{Label, WindowNumber};
 
@@ -78,8 +78,8 @@ impl Table for Windows {
         h.number
     }
 
-    fn order(a: WindowNumber, b: WindowNumber) -> Order {
-        sorted::compare(a.0 as u64, b.0 as u64)
+    fn order(a: WindowNumber, b: WindowNumber) -> Ordering {
+        a.0.cmp(&b.0)
     }
 
     ghost fits = { Prim.search rules };

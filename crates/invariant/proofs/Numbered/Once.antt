@@ -6,7 +6,7 @@ use mathlib.Core.Bool.{Bool, true, not}
 use mathlib.Core.List.{List, [], ◌∷◌}
 use Rattle.std.specs.Prelude.{Some as some}
 use Prim.Native.Nat.{ℕ}
-use Rattle.sorted.specs.declared.Order.{Order}
+use Rattle.std.specs.declared.cmp.Ordering.{Ordering as Order}
 use Rattle.sorted.specs.Order.{Linear, same}
 use Rattle.sorted.specs.Table.{In, Sorted, at, put, drop}
 use Rattle.sorted.proofs.Never.{never}

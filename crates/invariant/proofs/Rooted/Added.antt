@@ -6,8 +6,8 @@ use mathlib.Core.List.{List, [], ◌∷◌}
 use Rattle.std.specs.Prelude.{Option, Some as some}
 use Prim.Native.Nat.{◌≤◌}
 use lib.ListN.{length}
-use Rattle.sorted.specs.declared.Order.{Order}
-use Rattle.sorted.specs.declared.Order.TheVariants.{Before, Same, After}
+use Rattle.std.specs.declared.cmp.Ordering.{Ordering as Order}
+use Rattle.std.specs.declared.cmp.Ordering.TheVariants.{Less as Before, Equal as Same, Greater as After}
 use Rattle.sorted.specs.Order.{Linear}
 use Rattle.sorted.specs.Table.{find, In, Sorted, place, insert}
 use Rattle.sorted.proofs.Linear.{linearℕ}

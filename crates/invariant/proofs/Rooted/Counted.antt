@@ -5,8 +5,8 @@ use mathlib.Core.List.{List, [], ◌∷◌}
 use Prim.Native.Nat.{ℕ, suc, ◌+◌, ◌≤◌, ◌<◌}
 use native.Mathlib.Omega.{arith}
 use lib.ListN.{length}
-use Rattle.sorted.specs.declared.Order.{Order}
-use Rattle.sorted.specs.declared.Order.TheVariants.{Before}
+use Rattle.std.specs.declared.cmp.Ordering.{Ordering as Order}
+use Rattle.std.specs.declared.cmp.Ordering.TheVariants.{Less as Before}
 use Rattle.sorted.specs.Order.{cmpℕ, lex, then}
 use Rattle.sorted.specs.Table.{In, Sorted}
 use Rattle.sorted.proofs.Linear.{before-lt, self-same}

@@ -20,7 +20,7 @@ fn and_window(ws: WindowNumbers, v: WindowNumber) -> WindowNumbers
     let mut rows = ws.rows;
     rows.rotate_right(1);
     rows[0] = v;
-    let others = sorted::used(ws.count, windows::WINDOWS);
+    let others = ws.count.min(windows::WINDOWS);
     WindowNumbers {
         rows,
         count: others + 1,

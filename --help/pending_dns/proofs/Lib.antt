@@ -1,0 +1,2 @@
+-- The laws of this table's rows.
+pub mod Coded
