@@ -9,5 +9,5 @@ returns-in_err-top c = lacks c.args.w c.args.out (cookies_in c.args.new) _ (sym 
 
 pub returns : goal.returns
 returns c =
-    acts c.args.w c.args.out (cookies_in c.args.new) record {window = c.args.w; document = c.in_ok-top.d; top = c.in_ok-top.top; merged = c.merge-merged.result; output = c.args.out; fresh = c.args.f}
+    acts c.args.w c.args.out (cookies_in c.args.new) record { window = c.args.w; document = c.in_ok-top.d; top = c.in_ok-top.top; merged = c.merge-merged.result; output = c.args.out; fresh = c.args.f }
     (sym c.in_ok-top.was ∙ c.displayed.ensures) c.merge-merged.ensures c.command.ensures

@@ -27,13 +27,27 @@ pub fn nothing(m: &mut Memory, s: Scene) -> Performed
 fn write_script(m: &mut Memory, n: DocumentNumber, v: Script)
     ensures { Carries (update documents (map (changing n (with_script v)))) [] [] m.old m.new true }
 {
-    Documents::revise(m, |d| if d.number == n { Document { script: v, ..d } } else { d });
+    Documents::revise(
+        m,
+        |d| if d.number == n {
+            Document { script: v, ..d }
+        } else {
+            d
+        },
+    );
 }
 
 fn write_state(m: &mut Memory, n: DocumentNumber, v: ScriptState)
     ensures { Carries (update documents (map (changing n (with_state v)))) [] [] m.old m.new true }
 {
-    Documents::revise(m, |d| if d.number == n { Document { state: v, ..d } } else { d });
+    Documents::revise(
+        m,
+        |d| if d.number == n {
+            Document { state: v, ..d }
+        } else {
+            d
+        },
+    );
 }
 
 // A7:52 to 55
@@ -41,10 +55,13 @@ pub fn set_script(m: &mut Memory, s: Scene, x: WindowNumber, v: Script) -> Perfo
     ensures { Performs (setting s.document (storing s) x (with_script v)) s.fresh m.old m.new result }
 {
     let n = get_window(m, s.document, x).number;
-    end(m, s, |m| {
+    let change = |m: &mut Memory| -> bool
+        ensures { Carries (update documents (map (changing n (with_script v)))) [] [] m.old m.new result }
+    {
         write_script(m, n, v);
         true
-    })
+    };
+    end(m, s, change)
 }
 
 // A7:56 to 59
@@ -52,8 +69,11 @@ pub fn set_script_state(m: &mut Memory, s: Scene, x: WindowNumber, v: ScriptStat
     ensures { Performs (setting s.document (storing s) x (with_state v)) s.fresh m.old m.new result }
 {
     let n = get_window(m, s.document, x).number;
-    end(m, s, |m| {
+    let change = |m: &mut Memory| -> bool
+        ensures { Carries (update documents (map (changing n (with_state v)))) [] [] m.old m.new result }
+    {
         write_state(m, n, v);
         true
-    })
+    };
+    end(m, s, change)
 }
