@@ -26,7 +26,7 @@ use Rattle.tables.specs.Labels.{Label}
 use Rattle.tables.specs.Rows.{same_document, origin_of, same_host, changing}
 use Rattle.wim.specs.Walks.{documents_of, steps, reached_from, active_document, Removal, removal}
 use Rattle.wim.specs.Cookies.{cookie_merge}
-use Rattle.wim.specs.Program.{Program, ask, observed, active, cookies_of, navigated, edit, revise, done, needs, Outcome, refused, run}
+use Rattle.wim.specs.Program.{Program, ask, observed, active, cookies_of, navigated, edit, revise, done, needs, Outcome, run}
 use Rattle.wim.specs.Script.{get_navigable_window, setting, remove, with_window, close, is_for, file, deliver, post_message, store, command, run_script}
 use Rattle.wim.specs.Step.{fresh_labels}
 use Rattle.browser.specs.View.{view}

@@ -55,10 +55,13 @@ pub fn set_script(m: &mut Memory, s: Scene, x: WindowNumber, v: Script) -> Perfo
     ensures { Performs (setting s.document (storing s) x (with_script v)) s.fresh m.old m.new result }
 {
     let n = get_window(m, s.document, x).number;
-    end(m, s, |m| {
+    let change = |m: &mut Memory| -> bool
+        ensures { Carries (update documents (map (changing n (with_script v)))) [] [] m.old m.new result }
+    {
         write_script(m, n, v);
         true
-    })
+    };
+    end(m, s, change)
 }
 
 // A7:56 to 59
@@ -66,8 +69,11 @@ pub fn set_script_state(m: &mut Memory, s: Scene, x: WindowNumber, v: ScriptStat
     ensures { Performs (setting s.document (storing s) x (with_state v)) s.fresh m.old m.new result }
 {
     let n = get_window(m, s.document, x).number;
-    end(m, s, |m| {
+    let change = |m: &mut Memory| -> bool
+        ensures { Carries (update documents (map (changing n (with_state v)))) [] [] m.old m.new result }
+    {
         write_state(m, n, v);
         true
-    })
+    };
+    end(m, s, change)
 }

@@ -1,6 +1,5 @@
 -- Where the history leads nowhere, it is 4; else the history is turned.
 use Rattle.std.proofs.Common.{[], sym, ◌∙◌, refl, rules}
-use Rattle.storing.specs.Stored.{storing}
 use Rattle.history.specs.Directions.{turn, turned}
 use Rattle.history.proofs.Ways.{ran}
 use Rattle.scripts.proofs.Ways.{nowhere, turns}

@@ -5,7 +5,6 @@ use Rattle.sorted.specs.Table.{put}
 use Rattle.tables.specs.Tables.{inputs, apply}
 use Rattle.wim.specs.Program.{edit, done, run}
 use Rattle.stepping.proofs.Carry.{put-carries}
-use Rattle.stepping.proofs.Ways.{refuses}
 use Rattle.scripts.proofs.Ways.{unreached, heard, unheard}
 use Rattle.scripts.proofs.commands.posting.post_message.Goals as goal
 use Rattle.scripts.proofs.commands.posting.post_message.Goals.{in_default-via-in-Some+else-is_for, in_default-via-in_default}
@@ -30,5 +29,6 @@ pub returns-in_default : goal.returns-in_default
 returns-in_default c = elim c.in_default.branch [
   | in_default-via-in-Some+else-is_for w ↦ unheard c.args.s c.args.message c.args.to c.args.x (sym c.in_ok-ok_or.ensures.ok_part ∙ c.reached.ensures) c.active_document.result c.active_document.ensures
       (λ d e. let z : some d ≡ some w.in-Some.d = sym e ∙ w.in-Some.is in let g : d ≡ w.in-Some.d = cc in rw g (sym w.is_for.ensures ∙ w.if-is_for.false)) c.nothing.ensures
-  | in_default-via-in_default w ↦ ?
+  | in_default-via-in_default w ↦ unheard c.args.s c.args.message c.args.to c.args.x (sym c.in_ok-ok_or.ensures.ok_part ∙ c.reached.ensures) c.active_document.result c.active_document.ensures
+      (λ d e. absurd (w.in_default.not-Some d e)) c.nothing.ensures
 ]
