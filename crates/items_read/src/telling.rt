@@ -53,7 +53,10 @@ fn tell_event(rt: &impl Print, e: Event) -> io::Result<()> {
 }
 
 fn tell_fresh(rt: &impl Print, f: Fresh) -> io::Result<()> {
-    print!(rt; " fresh {} {} {} {} {}", f.window.0, f.request.0, f.dns.0, f.key.0, f.document.0)
+    print!(rt;
+        " fresh {} {} {} {} {}",
+        f.window.0, f.request.0, f.dns.0, f.key.0, f.document.0
+    )
 }
 
 pub fn tell_reading(rt: &impl Print, r: Result<Item, Refusal>) -> io::Result<()> {

@@ -31,7 +31,10 @@ pub fn take(
     let verdict = rehearsal::number(taken);
     let count = taken.unwrap_or(0);
     rt.write_all(name)?;
-    print!(rt; ": {verdict}, {count} bytes; memory {} changed; buffer ", changed(&before, m))?;
+    print!(rt;
+        ": {verdict}, {count} bytes; memory {} changed; buffer ",
+        changed(&before, m)
+    )?;
     tell_buffer(rt, out)?;
     println!(rt; "")
 }

@@ -14,11 +14,11 @@ pub loop-i-preserved : goal.loop-i-preserved
 loop-i-preserved c =
     elim c.if-eq.branch [
       | then-eq w ↦
-        (let e : is_for c.args.document c.row-row.result ≡ true = (let t = w.if-eq.true in search rules) in
-        rw (w.out-is, w.p-is) (pass_takes c.loop-i.invariant c.row-row.ensures (omega arith) e w.write_news-p.ensures))
+          (let e : is_for c.args.document c.row-row.result ≡ true = (let t = w.if-eq.true in search rules) in
+          rw (w.out-is, w.p-is) (pass_takes c.loop-i.invariant c.row-row.ensures (omega arith) e w.write_news-p.ensures))
       | else-eq w ↦
-        (let e : is_for c.args.document c.row-row.result ≡ false = (let t = w.if-eq.false in search rules) in
-        rw (w.out-is, w.p-is) (pass_skips c.loop-i.invariant c.row-row.ensures (omega arith) e))
+          (let e : is_for c.args.document c.row-row.result ≡ false = (let t = w.if-eq.false in search rules) in
+          rw (w.out-is, w.p-is) (pass_skips c.loop-i.invariant c.row-row.ensures (omega arith) e))
     ]
 
 pub returns : goal.returns
