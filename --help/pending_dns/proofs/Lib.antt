@@ -1,2 +1,0 @@
--- The laws of this table's rows.
-pub mod Coded

@@ -1,3 +1,0 @@
--- What the contracts of this crate cite.
-pub mod Heads
-pub mod Tidied
