@@ -28,7 +28,7 @@ fn hangs_under(place: Parent, parent: Parent) -> bool
 }
 
 // (window ..): the windows that hang at a place, at most so many levels deep, and none where no level is left.
-#[cycle(document_items_write_limited_write_whole_write_window_write_windows)]
+#[cycle(tree)]
 pub fn write_windows(
     m: &Memory,
     out: &mut [u8],
@@ -53,7 +53,7 @@ pub fn write_windows(
 }
 
 // (window (document) opener)
-#[cycle(document_items_write_limited_write_whole_write_window_write_windows)]
+#[cycle(tree)]
 fn write_window(
     m: &Memory,
     out: &mut [u8],
@@ -74,7 +74,7 @@ fn write_window(
 }
 
 // The active document of a window, where it has one: "all inactive documents removed".
-#[cycle(document_items_write_limited_write_whole_write_window_write_windows)]
+#[cycle(tree)]
 fn document_items(
     m: &Memory,
     out: &mut [u8],
@@ -98,7 +98,7 @@ fn document_items(
 }
 
 // (document location () referrer script scriptstate inputs subwindows 1:T)
-#[cycle(document_items_write_limited_write_whole_write_window_write_windows)]
+#[cycle(tree)]
 fn write_whole(
     m: &Memory,
     out: &mut [u8],
@@ -123,7 +123,7 @@ fn write_whole(
 }
 
 // (document subwindows): "a limited document with the same nonce and the same subwindow list"
-#[cycle(document_items_write_limited_write_whole_write_window_write_windows)]
+#[cycle(tree)]
 fn write_limited(
     m: &Memory,
     out: &mut [u8],
