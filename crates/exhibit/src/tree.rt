@@ -12,6 +12,7 @@ ghost use Rattle.exhibit.specs.Levels.{hangs_under, windows_under, below, within
 
 use csexp::write::{close_list, empty_list, labelled, number, open_list, word};
 use exhibit_parts::{write_inputs, write_opener, write_referrer};
+use labels::same_origin;
 use memory::Memory;
 use rows::Table;
 use types::rows::{Document, Parent, Window};
@@ -88,7 +89,7 @@ fn document_items(
     match active_document(m, window) {
         None => at,
         Some(d) => {
-            if origin_of(d) == origin {
+            if same_origin(origin_of(d), origin) {
                 write_whole(m, out, at, origin, d, levels)
             } else {
                 write_limited(m, out, at, origin, d, levels)

@@ -1,6 +1,5 @@
 -- A law for each call; the loop is the law `Passing`.
-use Rattle.std.specs.Prelude.{◌≡◌, true, false}
-use Rattle.std.proofs.Common.{rules, sym, ap, ◌∙◌, arith}
+use Rattle.std.proofs.Common.{sym, ap, ◌∙◌, arith}
 use Rattle.browser.specs.View.{view}
 use Rattle.csexp.proofs.write.Steps.{opened, passed, closed, ended, absent}
 use Rattle.tables.specs.Rows.{same_origin}
@@ -14,16 +13,14 @@ use Rattle.exhibit.proofs.tree.+tree.Goals.{write_windows-then-hangs_under, writ
 pub document_items-returns-in-None : goal.document_items-returns-in-None
 document_items-returns-in-None t c = document-none (view c.args.m.now) c.args.origin c.args.levels (sym c.in-None.is ∙ c.active_document.ensures) (absent _ _ (omega arith))
 
-pub document_items-returns-then-eq : goal.document_items-returns-then-eq
-document_items-returns-then-eq t c =
-    let same : same_origin c.origin_of.result c.args.origin ≡ true = search rules in
-    let e = ap (λ (o : Origin). same_origin o c.args.origin) (sym c.origin_of.ensures) ∙ same in
+pub document_items-returns-then-same_origin : goal.document_items-returns-then-same_origin
+document_items-returns-then-same_origin t c =
+    let e = ap (λ (o : Origin). same_origin o c.args.origin) (sym c.origin_of.ensures) ∙ sym c.same_origin.ensures ∙ c.if-same_origin.true in
     document-whole (view c.args.m.now) c.args.origin c.args.levels c.in-Some.d (sym c.in-Some.is ∙ c.active_document.ensures) e c.write_whole.ensures
 
-pub document_items-returns-else-eq : goal.document_items-returns-else-eq
-document_items-returns-else-eq t c =
-    let same : same_origin c.origin_of.result c.args.origin ≡ false = search rules in
-    let e = ap (λ (o : Origin). same_origin o c.args.origin) (sym c.origin_of.ensures) ∙ same in
+pub document_items-returns-else-same_origin : goal.document_items-returns-else-same_origin
+document_items-returns-else-same_origin t c =
+    let e = ap (λ (o : Origin). same_origin o c.args.origin) (sym c.origin_of.ensures) ∙ sym c.same_origin.ensures ∙ c.if-same_origin.false in
     document_limited (view c.args.m.now) c.args.origin c.args.levels c.in-Some.d (sym c.in-Some.is ∙ c.active_document.ensures) e c.write_limited.ensures
 
 -- A DOCUMENT: of another origin, and one of the script's own.
