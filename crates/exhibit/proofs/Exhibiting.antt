@@ -19,7 +19,7 @@ use Rattle.std.specs.Prelude.{ok_or}
 use Rattle.tables.specs.Tables.{windows, documents, local_storage, session_storage, Tables}
 use Rattle.tables.specs.Rows.{origin_of}
 use Rattle.wim.specs.Nouns.{WindowNumber, Origin, Top, Document, Missing, Lacking, NoRoom, Closed}
-use Rattle.wim.specs.Step.{Accepted, Refused}
+use Rattle.wim.specs.Step.{Accepted}
 use Rattle.wim.specs.Walks.{active_document, steps, reached_from}
 use Rattle.wim.specs.Program.{observed}
 use Rattle.browser.specs.View.{view, is_closed, browser}

@@ -24,18 +24,25 @@ buffer_of : (r : Showing) (o : List ℕ) → o ≡ (saying r o).buffer
 buffer_of (Ok n) o = refl
 buffer_of (Err why) o = refl
 
-same_told : (r s : Showing) → {o p : List ℕ} → saying r o ≡ saying s p → r ≡ s
-same_told (Ok n) (Ok k) e = ap (λ (x : Exhibit). Ok x.count) e
-same_told (Ok n) (Err why) e = never (cc)
-same_told (Err why) (Ok k) e = never (cc)
-same_told (Err why) (Err other) e = cc
+-- the verdict says which it is, and why
+apart : {A : Type 0} {why : Refusal} → Accepted ≡ Refused why → A
+apart e = never (cc)
+
+same_refusal : {why other : Refusal} → Refused why ≡ Refused other → why ≡ other
+same_refusal e = cc
+
+same_told : (r s : Showing) (o p : List ℕ) → saying r o ≡ saying s p → r ≡ s
+same_told (Ok n) (Ok k) o p e = ap (λ (x : Exhibit). Ok x.count) e
+same_told (Ok n) (Err why) o p e = apart (ap (λ (x : Exhibit). x.verdict) e)
+same_told (Err why) (Ok k) o p e = apart (sym (ap (λ (x : Exhibit). x.verdict) e))
+same_told (Err why) (Err other) o p e = ap Err (same_refusal (ap (λ (x : Exhibit). x.verdict) e))
 
 -- "Two browsers with the same rows are equal"
 pub one-exhibit : {m n : List ℕ} {w : WindowNumber} {out : List ℕ} {place : ℕ} {r s : Showing} {out₁ out₂ : List ℕ}
     → browser m ≡ browser n → Shows m w out place r out₁ → Shows n w out place s out₂ → (r ≡ s) × (out₁ ≡ out₂)
 one-exhibit {m} {n} {w} {out} {place} {r} {s} {out₁} {out₂} e u v =
     let same : saying r out₁ ≡ saying s out₂ = u.tells ∙ ap (λ (x : Browser). exhibit x w out place) e ∙ sym v.tells in
-    (same_told r s same, buffer_of r out₁ ∙ ap (λ (x : Exhibit). x.buffer) same ∙ sym (buffer_of s out₂))
+    (same_told r s out₁ out₂ same, buffer_of r out₁ ∙ ap (λ (x : Exhibit). x.buffer) same ∙ sym (buffer_of s out₂))
 
 module _ (out : List ℕ) (place : ℕ) where
   idle : (x : Shown) (why : Refusal) → (exhibited x out place).verdict ≡ Refused why → (exhibited x out place).buffer ≡ out

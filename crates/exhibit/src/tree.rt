@@ -12,6 +12,7 @@ ghost use Rattle.exhibit.specs.Levels.{hangs_under, windows_under, below, within
 
 use csexp::write::{close_list, empty_list, labelled, number, open_list, word};
 use exhibit_parts::{write_inputs, write_opener, write_referrer};
+use labels::same_origin;
 use memory::Memory;
 use rows::Table;
 use types::rows::{Document, Parent, Window};
@@ -28,7 +29,7 @@ fn hangs_under(place: Parent, parent: Parent) -> bool
 }
 
 // (window ..): the windows that hang at a place, at most so many levels deep, and none where no level is left.
-#[cycle(document_items_write_limited_write_whole_write_window_write_windows)]
+#[cycle(tree)]
 pub fn write_windows(
     m: &Memory,
     out: &mut [u8],
@@ -53,7 +54,7 @@ pub fn write_windows(
 }
 
 // (window (document) opener)
-#[cycle(document_items_write_limited_write_whole_write_window_write_windows)]
+#[cycle(tree)]
 fn write_window(
     m: &Memory,
     out: &mut [u8],
@@ -74,7 +75,7 @@ fn write_window(
 }
 
 // The active document of a window, where it has one: "all inactive documents removed".
-#[cycle(document_items_write_limited_write_whole_write_window_write_windows)]
+#[cycle(tree)]
 fn document_items(
     m: &Memory,
     out: &mut [u8],
@@ -88,7 +89,7 @@ fn document_items(
     match active_document(m, window) {
         None => at,
         Some(d) => {
-            if origin_of(d) == origin {
+            if same_origin(origin_of(d), origin) {
                 write_whole(m, out, at, origin, d, levels)
             } else {
                 write_limited(m, out, at, origin, d, levels)
@@ -98,7 +99,7 @@ fn document_items(
 }
 
 // (document location () referrer script scriptstate inputs subwindows 1:T)
-#[cycle(document_items_write_limited_write_whole_write_window_write_windows)]
+#[cycle(tree)]
 fn write_whole(
     m: &Memory,
     out: &mut [u8],
@@ -123,7 +124,7 @@ fn write_whole(
 }
 
 // (document subwindows): "a limited document with the same nonce and the same subwindow list"
-#[cycle(document_items_write_limited_write_whole_write_window_write_windows)]
+#[cycle(tree)]
 fn write_limited(
     m: &Memory,
     out: &mut [u8],
