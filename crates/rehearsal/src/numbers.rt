@@ -6,6 +6,7 @@ ghost use Rattle.rehearsal.specs.Rehearses.{verdict_of};
 use crate::telling::Rehearsed;
 use types::refusals::Refusal;
 
+// No `From<Refusal>`: it would stand in `types`, below the definition of the numbers (wim/specs/Step).
 fn refusal_number(why: Refusal) -> u32
     ensures { result ≡ refusal_number why }
 {

@@ -61,6 +61,7 @@ pub trait Table {
     fn glance(c: &[u32]) -> Self::Head
         ensures { result ≡ head_of (decode c.now) };
 
+    // Each table stores its own array: no computed const argument can name [u32; WIDTH] here.
     fn write(c: &mut [u32], row: Self::Row)
         ensures { length c.old ≡ WIDTH → decode c.new ≡ kept row };
 

@@ -1,5 +1,6 @@
 // Writes what goes out into a buffer that is lent (01 "The text", "Refusal numbers"). The writers of its parts each write a term at a position of a lent slice, as those
 // of csexp::write do. That nothing of an event is lost, so written, is a theorem (proofs/Backs), and so is that no other text reads as it (proofs/Only).
+// A buffer and a place in it stay two parameters: `Puts` and its kin promise each byte of the buffer by its place.
 #![tactic(auto)]
 
 pub mod addresses; // protocols, fragments, addresses, origins

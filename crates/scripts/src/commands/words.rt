@@ -37,6 +37,7 @@ fn write_script(m: &mut Memory, n: DocumentNumber, v: Script)
     );
 }
 
+// As write_script: not one function over the field, since a closure's `ensures` cannot name a function that the outer contract quantifies.
 fn write_state(m: &mut Memory, n: DocumentNumber, v: ScriptState)
     ensures { Carries (update documents (map (changing n (with_state v)))) [] [] m.old m.new true }
 {
