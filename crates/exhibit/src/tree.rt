@@ -75,6 +75,7 @@ fn write_window(
 }
 
 // The active document of a window, where it has one: "all inactive documents removed".
+// Origins are compared by labels: tried with `==`, the proof did not close, since the search does not join it to `same_origin` at a result of a call.
 #[cycle(tree)]
 fn document_items(
     m: &Memory,

@@ -5,7 +5,7 @@ use Rattle.exhibit.proofs.put_exhibit.Goals as goal
 use Rattle.exhibit.proofs.put_exhibit.Goals.{else-place-out-via-then-place-out+else-n-out, else-place-out-via-else-place-out}
 
 pub returns-then-n-out : goal.returns-then-n-out
-returns-then-n-out c = sent-there _ c.write_exhibit-n.ensures.puts (omega arith) c.if-place-out.true c.if-n-out.true c.write_exhibit.ensures.puts
+returns-then-n-out c = sent-there _ c.write_exhibit-n.ensures.puts (omega arith) (omega arith) (omega arith) c.write_exhibit.ensures.puts
 
 pub returns : goal.returns
 returns c =
