@@ -105,7 +105,7 @@ pub record Computed : Type 0 where
   pub questions : (questions_shown here.tables ≡ 32 ∷ []) × (questions_shown (leaves_all (following ∷ (loading ∷ [])) here).tables ≡ 31 ∷ []) × (questions_shown (leaves_all (loading ∷ (following ∷ [])) here).tables ≡ 31 ∷ [])
 
 pub computed : Computed
-unfolding Answers.digit_at At.term_at At.terms_at At.string_at At.number_at At.mark_at Decode.inside Decode.one Decode.end Decode.up_to Decode.perhaps Decode.atom_of Decode.either Decode.maps Decode.same Decode.word Decode.means Decode.numeral Decode.optionally Decode.optional_of Decode.labelled_of Limits.shallow Limits.shallows Limits.ending_of Limits.whole_of Read.run Read.number Read.mark Read.bytes Read.string Read.read Read.reads Read.term Read.terms Term.digits Term.decimal Term.write Term.writes Term.levels Term.levels_in Encode.number_term Encode.optional_term Encode.each Encode.labelled Encode.joins Puts.over Table.find Table.keep Table.insert Table.lower Table.has Labels.clean Labels.is_fresh Events.event_of Items.unless Items.more_headers Texts.item_in Rows.jar Cookies.cookie_merge Cookies.add_cookies History.moved History.nav_back History.nav_forward LocalSteps.is_local LocalSteps.home LocalSteps.top_of LocalSteps.stands LocalSteps.hosts LocalSteps.names Main.urlbar Main.reload Main.forward Main.back Main.close_corrupt Main.encrypted_answer Main.plain_answer Main.go_out Main.resolved Main.program Navigable.ancestor_has Navigable.navigable_directly Navigable.follows Navigable.navigable_mask Navigable.navigable_size Program.observed Program.run Response.window_course Response.script_course Response.course_of Response.takes Response.process_response Run.play_from Run.play Script.href Script.iframe Script.form Script.setting Script.xhr Script.close Script.deliver Script.post_message Script.command Script.run_script Sending.send Step.all_fresh Step.fits Step.step_tables Step.step Walks.documents_of Walks.active_document Walks.window_numbered Walks.document_numbered Walks.above Walks.top_above Walks.reached_from Walks.is_under Walks.removal Wire.rehearse set_up set_up_lines here following loading redirecting follow load redirect in_the_end
+unfolding Answers.digit_at Answers.value_at Answers.fields_at At.term_at At.terms_at At.string_at At.number_at At.mark_at Decode.inside Decode.one Decode.end Decode.up_to Decode.perhaps Decode.atom_of Decode.either Decode.maps Decode.same Decode.word Decode.means Decode.numeral Decode.optionally Decode.optional_of Decode.labelled_of Limits.shallow Limits.shallows Limits.ending_of Limits.whole_of Read.run Read.number Read.mark Read.bytes Read.string Read.read Read.reads Read.term Read.terms Term.digits Term.decimal Term.write Term.writes Term.levels Term.levels_in Encode.number_term Encode.optional_term Encode.each Encode.labelled Encode.joins Puts.put Table.find Table.keep Table.insert Table.lower Table.has Labels.clean Labels.is_fresh Events.event_of Items.unless Items.more_headers Texts.item_in Rows.jar Cookies.cookie_merge Cookies.add_cookies History.moved History.nav_back History.nav_forward LocalSteps.is_local LocalSteps.home LocalSteps.top_of LocalSteps.stands LocalSteps.hosts LocalSteps.names Main.urlbar Main.reload Main.forward Main.back Main.close_corrupt Main.encrypted_answer Main.plain_answer Main.go_out Main.resolved Main.program Navigable.ancestor_has Navigable.navigable_directly Navigable.follows Navigable.navigable_mask Navigable.navigable_size Program.observed Program.run Response.window_course Response.script_course Response.course_of Response.takes Response.process_response Run.play_from Run.play Script.href Script.iframe Script.form Script.setting Script.xhr Script.close Script.deliver Script.post_message Script.command Script.run_script Sending.send Step.all_fresh Step.fits Step.step_tables Step.step Walks.documents_of Walks.active_document Walks.window_numbered Walks.document_numbered Walks.above Walks.top_above Walks.reached_from Walks.is_under Walks.removal Wire.rehearse set_up set_up_lines here following loading redirecting follow load redirect in_the_end
 computed = record {
   eight_free = refl;
   following-alone = record { is_read = refl; is-local = refl; has-hosts = refl; stands-under = refl; is-accepted = refl };
