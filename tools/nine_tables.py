@@ -19,9 +19,9 @@ windows = Table('windows', 'Windows', 'windows_in', 'Window', 'window_of', ('WIN
     ('parent', Part('Parent', 2, 'parent')),
     ('opener', Part('Opener', 2, 'opener')),
 ], Key('WindowNumber', 'h.number', 'ℕ', 'key.0', ['{k}.0']), 'The windows, by number', 'by number',
-    mentions='l == Label::OfWindow(h.number) || labels::in_parent(l, h.parent) || labels::in_opener(l, h.opener)',
+    mentions='labels::same(l, Label::OfWindow(h.number)) || labels::in_parent(l, h.parent) || labels::in_opener(l, h.opener)',
     gated={'a_33rd_window_taken': ('const CAPACITY: usize = WINDOWS;', 'const CAPACITY: usize = WINDOWS + 1;')},
-    edits=forgets('l == Label::OfWindow(h.number)', 'Label::OfWindow(h.number)',
+    edits=forgets('labels::same(l, Label::OfWindow(h.number))', 'Label::OfWindow(h.number)',
                   an_opener_is_forgotten=('labels::in_opener(l, h.opener)', 'labels::in_opener(l, None)'),
                   a_parent_is_forgotten=('labels::in_parent(l, h.parent)', 'labels::in_parent(l, None)')))
 
@@ -38,7 +38,8 @@ fn no_numbers() -> DocumentNumbers {
 // The numbers of the documents that pass a test.
 pub fn numbers<F: Fn(Document) -> bool>(m: &Memory, test: F) -> DocumentNumbers
     requires { F.IsAlwaysCallable test }
-    ensures { (p : Document → Bool) → Decides F.post test (λ d. d) p → document_numbers result ≡ map number_of (keep p (table documents_in m.now)) }
+    ensures numbers { (p : Document → Bool) → Decides F.post test (λ d. d) p → document_numbers result ≡ map number_of (keep p (table documents_in m.now)) }
+    ensures most { result.count ≤ length (table documents_in m.now) }
 {
     let mut out = no_numbers();
     let mut j = 0;
@@ -70,10 +71,11 @@ documents = Table('documents', 'Documents', 'documents_in', 'Document', 'documen
     ('state', Number('ScriptState')),
     ('active', Flag()),
 ], Key('(WindowNumber, u32)', '(h.window, h.place)', 'ℕ × ℕ', '(key.0.0, key.1)', ['{k}.0.0', '{k}.1']), 'The documents, by window and place in its history',
-    'by window and place in its history', mentions='l == Label::OfWindow(h.window) || l == Label::OfDocument(h.number)', offered=NUMBERS, more={'specs/Told.antt': NUMBER_OF},
-    edits=forgets('l == Label::OfWindow(h.window)', 'Label::OfWindow(h.window)', a_document_is_forgotten=('l == Label::OfDocument(h.number)', 'l == Label::OfWindow(h.window)')) | {
+    'by window and place in its history', mentions='labels::same(l, Label::OfWindow(h.window)) || labels::same(l, Label::OfDocument(h.number))', offered=NUMBERS, more={'specs/Told.antt': NUMBER_OF},
+    edits=forgets('labels::same(l, Label::OfWindow(h.window))', 'Label::OfWindow(h.window)', a_document_is_forgotten=('labels::same(l, Label::OfDocument(h.number))', 'labels::same(l, Label::OfWindow(h.window))')) | {
         'numbers_counts_every_place': ('out.count = j;', 'out.count = 64;'),
         'numbers_counts_none': ('out.count = j;', 'out.count = 0;'),
+        'numbers_counts_too_many_where_answers_differ': ('out.rows[j] = row.number;', 'if !test(row) { out.count = 65; return out; } out.rows[j] = row.number;'),
     })
 
 # ---------------------------------------------------------------- cookies
@@ -258,8 +260,8 @@ session_storage = Table('session_storage', 'SessionStorage', 'session_in', 'Sess
 ], Key('(Origin, WindowNumber)', '(h.origin, h.top)', 'ℕ × (Bool × ℕ)', '(key.0.host.0, (is_secure key.0.protocol, key.1.0))',
        ['{k}.0.host.0', '!labels::is_secure({k}.0.protocol)', '{k}.1.0']),
     'What scripts keep in session storage, by origin and top-level window', 'by origin and top-level window', component='sessionStorage',
-    mentions='l == Label::OfWindow(h.top)', edits=forgets('l == Label::OfWindow(h.top)', 'Label::OfWindow(h.top)',
-                                                          a_session_row_is_forgotten=('l == Label::OfWindow(h.top)', 'l == Label::OfWindow(WindowNumber(0))')))
+    mentions='labels::same(l, Label::OfWindow(h.top))', edits=forgets('labels::same(l, Label::OfWindow(h.top))', 'Label::OfWindow(h.top)',
+                                                          a_session_row_is_forgotten=('labels::same(l, Label::OfWindow(h.top))', 'l == Label::OfWindow(WindowNumber(0))')))
 
 # ---------------------------------------------------------------- inputs
 
@@ -268,8 +270,8 @@ inputs = Table('inputs', 'Inputs', 'inputs_in', 'Input', 'input_of', ('INPUTS', 
     ('arrival', Plain()),
     ('news', Part('News', 6, 'news')),
 ], Key('(DocumentNumber, u32)', '(h.document, h.arrival)', 'ℕ × ℕ', '(key.0.0, key.1)', ['{k}.0.0', '{k}.1']), 'The inputs of scripts, by document and arrival',
-    'by document and arrival', mentions='l == Label::OfDocument(h.document) || labels::in_news(l, h.news)',
-    edits=forgets('l == Label::OfDocument(h.document)', 'Label::OfDocument(h.document)',
+    'by document and arrival', mentions='labels::same(l, Label::OfDocument(h.document)) || labels::in_news(l, h.news)',
+    edits=forgets('labels::same(l, Label::OfDocument(h.document))', 'Label::OfDocument(h.document)',
                   a_sender_is_forgotten=('labels::in_news(l, h.news)', 'labels::in_news(l, types::rows::News::Answered(None, types::answers::Body::Number(0)))')))
 
 # ---------------------------------------------------------------- what waits
@@ -285,7 +287,7 @@ REQUEST = Struct('Request', [
     ('referrer', REFERRER),
     ('body', Number('Data')),
 ])
-OF_REFERENCE = ('labels::in_reference(l, h.reference)', 'labels::in_reference(l, Reference::Req(types::WindowNumber(0)))')
+OF_REFERENCE = ('labels::in_reference(l, h.reference)', 'labels::in_reference(l, types::Reference::Req(types::WindowNumber(0)))')
 
 pending_dns = Table('pending_dns', 'PendingDns', 'questions_in', 'Question', 'question_of', ('PENDING_DNS', 16), [
     ('number', Number('DnsNumber')),
@@ -294,11 +296,11 @@ pending_dns = Table('pending_dns', 'PendingDns', 'questions_in', 'Question', 'qu
     ('url', URL),
 ], Key('DnsNumber', 'h.number', 'ℕ', 'key.0', ['{k}.0'], 'λ h. h.number.0'), "The requests that wait for their host's address, by number",
     'by dns number; behind its head each row has its Cookie header', component='pendingDNS',
-    mentions='l == Label::OfDns(h.number) || l == Label::OfRequest(h.request) || labels::in_reference(l, h.reference)',
+    mentions='labels::same(l, Label::OfDns(h.number)) || labels::same(l, Label::OfRequest(h.request)) || labels::in_reference(l, h.reference)',
     head=[('number', 'number'), ('reference', 'reference'), ('request', 'request.number')], meanings="""
 abbrev pub head_mentions : Head → List Label
 head_mentions h = (dns, h.number.0) ∷ ((request, h.request.0) ∷ (leads h.reference ∷ []))
-""", edits=forgets('l == Label::OfDns(h.number)', 'Label::OfDns(h.number)', a_request_is_forgotten=('l == Label::OfRequest(h.request)', 'l == Label::OfDns(h.number)'),
+""", edits=forgets('labels::same(l, Label::OfDns(h.number))', 'Label::OfDns(h.number)', a_request_is_forgotten=('labels::same(l, Label::OfRequest(h.request))', 'labels::same(l, Label::OfDns(h.number))'),
                    a_reference_is_forgotten=OF_REFERENCE))
 
 pending_requests = Table('pending_requests', 'PendingRequests', 'requests_in', 'Waiting', 'waiting_of', ('PENDING_REQUESTS', 16), [
@@ -309,11 +311,11 @@ pending_requests = Table('pending_requests', 'PendingRequests', 'requests_in', '
     ('address', Half('Address')),
 ], Key('RequestNumber', 'h.request', 'ℕ', 'key.0', ['{k}.0'], 'λ h. h.request.0'), 'The requests that wait for their answer, by number',
     'by request number; behind its head each row has its Cookie header', component='pendingRequests',
-    mentions='l == Label::OfRequest(h.request) || labels::in_seal(l, h.seal) || labels::in_reference(l, h.reference)',
+    mentions='labels::same(l, Label::OfRequest(h.request)) || labels::in_seal(l, h.seal) || labels::in_reference(l, h.reference)',
     head=[('reference', 'reference'), ('request', 'request.number'), ('seal', 'seal')], meanings="""
 abbrev pub head_mentions : Head → List Label
 head_mentions h = (request, h.request.0) ∷ (seal_label h.seal ++ (leads h.reference ∷ []))
-""", edits=forgets('l == Label::OfRequest(h.request)', 'Label::OfRequest(h.request)', a_key_is_forgotten=('labels::in_seal(l, h.seal)', 'labels::in_seal(l, None)'),
+""", edits=forgets('labels::same(l, Label::OfRequest(h.request))', 'Label::OfRequest(h.request)', a_key_is_forgotten=('labels::in_seal(l, h.seal)', 'labels::in_seal(l, None)'),
                    a_reference_is_forgotten=OF_REFERENCE))
 
 # ---------------------------------------------------------------- sts

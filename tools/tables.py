@@ -10,7 +10,7 @@ tools/nine_tables.py describes the tables; FOLDER has the crates (`crates` besid
     src/lib.rt                   how many rows there are at most; the unit struct that is a `rows::Table`; the functions of the description
     src/heads.rt                 of waiting rows: what tests look at
     specs/, proofs/              of waiting rows: their heads, what is read of a row that was written, and that it is; else what the description has
-    must-fail/, and MORE         the edits that the description names, and of waiting rows HEADER_EDITS
+    must-fail/, and MORE         the edits that the description names, and of waiting rows HEADER_EDITS, of others row_edits
 
 What a table does stands once, in `rows`. What is written is in the layout of `rt fmt` and names no more than `rt tidy` leaves. It is committed and read like any other code;
 it is written anew when a description changes.
@@ -318,7 +318,7 @@ USES = {
     'types::rows': ['Window', 'Document', 'HostCookie', 'LocalValue', 'SessionValue', 'Input', 'Question', 'Waiting', 'StrictHost', 'News'],
 }
 CITES = {
-    'Rattle.std.specs.Prelude': ['◌≡◌', 'Bool', 'not', '◌&&◌', 'List', '[]', '◌∷◌', '◌++◌', 'map', 'ℕ', 'length', 'get_or', 'take', 'drop', '◌%◌'],
+    'Rattle.std.specs.Prelude': ['◌≡◌', 'Bool', 'not', '◌&&◌', 'List', '[]', '◌∷◌', '◌++◌', 'map', 'ℕ', '◌≤◌', 'length', 'get_or', 'take', 'drop', '◌%◌'],
     'Rattle.std.proofs.Common': ['refl', 'rules'],
     'Rattle.sorted.specs.Table': ['find', 'keep', 'at', 'is_some'],
     'Rattle.memory.specs.Rows': ['table'],
@@ -531,7 +531,7 @@ def crate(table, folder):
             write(f'{root}/{kind}/Lib.antt', f'-- {about}\n' + ''.join(f'pub mod {m}\n' for m in mods))
 
     # what a check must refuse
-    for place, edits in (('must-fail', table.gated), (MORE, (HEADER_EDITS if table.header else {}) | table.edits)):
+    for place, edits in (('must-fail', table.gated), (MORE, (HEADER_EDITS if table.header else row_edits(table)) | table.edits)):
         for label, (old, new) in edits.items():
             EDITED.append((f'{root}/src/lib.rt', label, fill(old, words)))
             write(f'{root}/{place}/{label}.edit', fill(f'file: src/lib.rt\nold: {old}\nnew: {new}\n', words))
@@ -577,6 +577,16 @@ HEADER_EDITS = {
     'row_starts_its_method_too_soon': ('method: layouts::method_of(layouts::number(c, @method@)),', 'method: layouts::method_of(layouts::number(c, @method-@)),'),
     'put_writes_the_header_too_soon': ('layouts::jars::write(c, @own@, row.request.cookies);', 'layouts::jars::write(c, @own-@, row.request.cookies);'),
 }
+
+
+
+def row_edits(table):
+    """The same of a row without a header: its first part read from one number further on, and nothing of it written."""
+    first = 'site_at' if table.type in ('LocalStorage', 'SessionStorage') else 'number'
+    return {
+        'row_starts_one_number_late': (f'layouts::{first}(c, 0)', f'layouts::{first}(c, 1)'),
+        'row_is_not_written': ('            c.copy_from_slice(&numbers);', '            c[0] = 0;'),
+    }
 
 
 def make(tables, folder, only):

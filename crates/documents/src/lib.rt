@@ -1,7 +1,7 @@
 // The documents, by window and place in its history, in lent memory. Written by tools/tables.py.
 #![tactic(auto)]
 
-ghost use Rattle.std.specs.Prelude.{◌≡◌, Bool, map, ℕ};
+ghost use Rattle.std.specs.Prelude.{◌≡◌, Bool, map, ℕ, ◌≤◌, length};
 ghost use Rattle.std.proofs.Common.{refl, rules};
 ghost use Rattle.sorted.specs.Table.{keep};
 ghost use Rattle.memory.specs.Rows.{table};
@@ -110,7 +110,7 @@ impl Labelled for Documents {
     ghost clean = { clean documents };
 
     fn mentions(h: Document, l: Label) -> bool {
-        l == Label::OfWindow(h.window) || l == Label::OfDocument(h.number)
+        labels::same(l, Label::OfWindow(h.window)) || labels::same(l, Label::OfDocument(h.number))
     }
 
     ghost cleaned = { clean_where_none documents };
@@ -156,7 +156,8 @@ fn no_numbers() -> DocumentNumbers {
 // The numbers of the documents that pass a test.
 pub fn numbers<F: Fn(Document) -> bool>(m: &Memory, test: F) -> DocumentNumbers
     requires { F.IsAlwaysCallable test }
-    ensures { (p : Document → Bool) → Decides F.post test (λ d. d) p → document_numbers result ≡ map number_of (keep p (table documents_in m.now)) }
+    ensures numbers { (p : Document → Bool) → Decides F.post test (λ d. d) p → document_numbers result ≡ map number_of (keep p (table documents_in m.now)) }
+    ensures most { result.count ≤ length (table documents_in m.now) }
 {
     let mut out = no_numbers();
     let mut j = 0;

@@ -95,7 +95,7 @@ impl Labelled for Inputs {
     ghost clean = { clean inputs };
 
     fn mentions(h: Input, l: Label) -> bool {
-        l == Label::OfDocument(h.document) || labels::in_news(l, h.news)
+        labels::same(l, Label::OfDocument(h.document)) || labels::in_news(l, h.news)
     }
 
     ghost cleaned = { clean_where_none inputs };

@@ -5,7 +5,7 @@ use seeking::find;
 use std::io;
 
 fn one_line(rt: &impl Print, line: &[u8]) -> io::Result<()> {
-    let e = find(line, 0, |b| b == b' ');
+    let e = find(line, 0, b' ');
     rt.write_all(&line[..e])?;
     if e < line.len() {
         tell_reading(rt, read_item(&line[e + 1..]))?;

@@ -27,27 +27,27 @@ pub fn same(l: Label, m: Label) -> bool
 pub fn in_parent(l: Label, p: Parent) -> bool
     ensures { result ≡ among (label_of l) (parent_label p) }
 {
-    p.is_some_and(|d| l == Label::OfDocument(d))
+    p.is_some_and(|d| same(l, Label::OfDocument(d)))
 }
 
 pub fn in_opener(l: Label, p: Opener) -> bool
     ensures { result ≡ among (label_of l) (opener_label p) }
 {
-    p.is_some_and(|w| l == Label::OfWindow(w))
+    p.is_some_and(|w| same(l, Label::OfWindow(w)))
 }
 
 pub fn in_seal(l: Label, p: Seal) -> bool
     ensures { result ≡ among (label_of l) (seal_label p) }
 {
-    p.is_some_and(|k| l == Label::OfKey(k))
+    p.is_some_and(|k| same(l, Label::OfKey(k)))
 }
 
 pub fn in_reference(l: Label, p: Reference) -> bool
     ensures { result ≡ same_label (label_of l) (leads p) }
 {
     match p {
-        Reference::Req(w) => l == Label::OfWindow(w),
-        Reference::Xhr(d, _) => l == Label::OfDocument(d),
+        Reference::Req(w) => same(l, Label::OfWindow(w)),
+        Reference::Xhr(d, _) => same(l, Label::OfDocument(d)),
     }
 }
 
@@ -57,6 +57,6 @@ pub fn in_news(l: Label, p: News) -> bool
 {
     match p {
         News::Answered(_, _) => false,
-        News::Posted(w, _, _) => l == Label::OfWindow(w),
+        News::Posted(w, _, _) => same(l, Label::OfWindow(w)),
     }
 }

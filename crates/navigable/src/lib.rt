@@ -21,7 +21,7 @@ use windows::Windows;
 fn has_origin(m: &Memory, o: Origin, w: WindowNumber) -> bool
     ensures { result ≡ has_origin o (active_document (table documents_in m.now) w) }
 {
-    walks::active_document(m, w).is_some_and(|d| walks::origin_of(d) == o)
+    walks::active_document(m, w).is_some_and(|d| labels::same_origin(walks::origin_of(d), o))
 }
 
 // Whether the active document of some window above has the origin, n steps up at most.

@@ -117,8 +117,8 @@ impl Labelled for PendingDns {
     ghost clean = { clean pending_dns };
 
     fn mentions(h: Head, l: Label) -> bool {
-        l == Label::OfDns(h.number)
-            || l == Label::OfRequest(h.request)
+        labels::same(l, Label::OfDns(h.number))
+            || labels::same(l, Label::OfRequest(h.request))
             || labels::in_reference(l, h.reference)
     }
 

@@ -118,7 +118,7 @@ impl Labelled for PendingRequests {
     ghost clean = { clean pending_requests };
 
     fn mentions(h: Head, l: Label) -> bool {
-        l == Label::OfRequest(h.request)
+        labels::same(l, Label::OfRequest(h.request))
             || labels::in_seal(l, h.seal)
             || labels::in_reference(l, h.reference)
     }

@@ -18,7 +18,7 @@ use types::{Fresh, KeyNumber};
 pub fn plain_answer(m: &mut Memory, a: Answer, few: SetCookies, f: Fresh) -> Performed
     ensures { Performs (ask (keyless a.number) (plain_answer a (cookies_in few))) f m.old m.new result }
 {
-    let found = PendingRequests::first(m, |h| h.request == a.number && h.seal.is_none());
+    let found = PendingRequests::first(m, |h| h.request == a.number && labels::has_no_key(h.seal));
     let w = found.ok_or(Missing::NoRequest)?;
     process_response(m, w, a, few, f)
 }
@@ -33,7 +33,7 @@ pub fn encrypted_answer(
 ) -> Performed
     ensures { Performs (ask (keyed k) (encrypted_answer a (cookies_in few))) f m.old m.new result }
 {
-    let found = PendingRequests::first(m, |h| h.seal == Some(k));
+    let found = PendingRequests::first(m, |h| labels::has_key(k, h.seal));
     let w = found.ok_or(Missing::NoRequest)?;
     if a.number != w.request.number {
         return Err(Refusal::Lacking(Missing::Mismatch));

@@ -4,11 +4,11 @@
 mod cells; // where the numbers of a row lie
 mod labelled; // tables whose rows speak of windows, documents, requests
 
-ghost use Rattle.std.specs.Prelude.{◌≡◌, Bool, not, List, ℕ, ◌+◌, ◌*◌, ◌≤◌, length, is_ok};
+ghost use Rattle.std.specs.Prelude.{◌≡◌, Bool, not, List, ℕ, ◌+◌, ◌*◌, ◌≤◌, length, is_ok, IfSome};
 ghost use Rattle.std.specs.declared.cmp.Ordering.{Ordering as Order};
 ghost use Rattle.sorted.specs.Order.{same};
-ghost use Rattle.sorted.specs.Table.{find, keep, at};
-ghost use Rattle.memory.specs.Rows.{table, total, Read, Glimpsed, Found, Kept, Put, Revised, Cleared};
+ghost use Rattle.sorted.specs.Table.{find, keep, at, In};
+ghost use Rattle.memory.specs.Rows.{table, end, total, Within, Read, Glimpsed, Found, Kept, Put, Revised, Cleared};
 ghost use Rattle.rows.specs.Tables.{laid, Decides, Makes, place_of};
 
 use cells::{cells, place, write_at};
@@ -104,7 +104,8 @@ pub trait Table {
     // The first row that passes a test.
     final fn first<F: Fn(Self::Head) -> bool>(m: &Memory, test: F) -> Option<Self::Row>
         requires { F.IsAlwaysCallable test }
-        ensures { (p : Self.Row → Bool) → Decides F.post test head_of p → result ≡ find p (table (laid COUNT WIDTH CAPACITY decode) m.now) }
+        ensures found { (p : Self.Row → Bool) → Decides F.post test head_of p → result ≡ find p (table (laid COUNT WIDTH CAPACITY decode) m.now) }
+        ensures member { IfSome result (λ r. In r (table (laid COUNT WIDTH CAPACITY decode) m.now)) }
     {
         for i in 0..Self::size(m) {
             if test(Self::head_at(m, i)) {
@@ -124,7 +125,8 @@ pub trait Table {
     // How many rows pass a test.
     final fn tally<F: Fn(Self::Head) -> bool>(m: &Memory, test: F) -> usize
         requires { F.IsAlwaysCallable test }
-        ensures { (p : Self.Row → Bool) → Decides F.post test head_of p → result ≡ length (keep p (table (laid COUNT WIDTH CAPACITY decode) m.now)) }
+        ensures counted { (p : Self.Row → Bool) → Decides F.post test head_of p → result ≡ length (keep p (table (laid COUNT WIDTH CAPACITY decode) m.now)) }
+        ensures most { result ≤ length (table (laid COUNT WIDTH CAPACITY decode) m.now) }
     {
         let mut some = 0;
         for i in 0..Self::size(m) {
@@ -138,7 +140,8 @@ pub trait Table {
     // Only rows that pass a test stay. None is copied onto itself.
     final fn keep<F: Fn(Self::Head) -> bool>(m: &mut Memory, test: F)
         requires { F.IsAlwaysCallable test }
-        ensures { (p : Self.Row → Bool) → Decides F.post test head_of p → Kept (laid COUNT WIDTH CAPACITY decode) p m.old m.new }
+        ensures kept { (p : Self.Row → Bool) → Decides F.post test head_of p → Kept (laid COUNT WIDTH CAPACITY decode) p m.old m.new }
+        ensures rest { Within COUNT (end (laid COUNT WIDTH CAPACITY decode)) m.old m.new }
     {
         let mut j = 0;
         for i in 0..Self::size(m) {
@@ -196,7 +199,8 @@ pub trait Table {
     // Each row changed in its place.
     final fn revise<F: Fn(Self::Row) -> Self::Row>(m: &mut Memory, change: F)
         requires { F.IsAlwaysCallable change }
-        ensures { (f : Self.Row → Self.Row) → Makes F.post change f → Revised (laid COUNT WIDTH CAPACITY decode) (λ r. kept (f r)) m.old m.new }
+        ensures revised { (f : Self.Row → Self.Row) → Makes F.post change f → Revised (laid COUNT WIDTH CAPACITY decode) (λ r. kept (f r)) m.old m.new }
+        ensures rest { Within COUNT (end (laid COUNT WIDTH CAPACITY decode)) m.old m.new }
     {
         let n = Self::size(m);
         for i in 0..n {

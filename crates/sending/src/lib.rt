@@ -119,7 +119,7 @@ pub fn cancel(m: &mut Memory, what: Cancelled)
     ensures { Carries (cancelled what) [] (pending_requests ∷ pending_dns ∷ []) m.old m.new true }
 {
     if let Cancelled::Labelled(s) = what {
-        PendingRequests::keep(m, |h| h.reference != s);
-        PendingDns::keep(m, |h| h.reference != s);
+        PendingRequests::keep(m, |h| !labels::same_reference(s, h.reference));
+        PendingDns::keep(m, |h| !labels::same_reference(s, h.reference));
     }
 }

@@ -100,7 +100,7 @@ impl Labelled for SessionStorage {
     ghost clean = { clean session_storage };
 
     fn mentions(h: SessionValue, l: Label) -> bool {
-        l == Label::OfWindow(h.top)
+        labels::same(l, Label::OfWindow(h.top))
     }
 
     ghost cleaned = { clean_where_none session_storage };

@@ -37,7 +37,7 @@ fn number(line: &[u8], at: usize, most: usize) -> (usize, usize)
 fn step_line(rt: &impl Print, line: &[u8], m: &mut Memory) -> io::Result<()> {
     let (room, after) = number(line, 0, LONGEST);
     let (place, name) = number(line, after, usize::MAX);
-    let end = find(line, name, |b| b == b' ');
+    let end = find(line, name, b' ');
     let text = behind(line, end);
     let mut buffer = dots();
     take(

@@ -2,17 +2,17 @@
 // before the event, the event, and how many dots behind it: together as many bytes as the buffer has, where every other byte is as it was.
 use crate::comparing::changed;
 use memory::Memory;
-use seeking::find;
+use seeking::{find, pass};
 use std::io;
 
 fn tell_buffer(rt: &impl Print, out: &[u8]) -> io::Result<()> {
-    let start = find(out, 0, |b| b != b'.');
+    let start = pass(out, 0, b'.');
     print!(rt; "{start}")?;
     if start < out.len() {
-        let end = find(out, start, |b| b == b'.');
+        let end = find(out, start, b'.');
         print!(rt; " ")?;
         rt.write_all(&out[start..end])?;
-        print!(rt; " {}", find(out, end, |b| b != b'.') - end)?;
+        print!(rt; " {}", pass(out, end, b'.') - end)?;
     }
     Ok(())
 }

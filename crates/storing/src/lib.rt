@@ -35,7 +35,7 @@ fn is_guarded(m: &Memory, h: Host, c: Cookie) -> bool
 {
     Cookies::first(
         m,
-        |old| old.host == h && old.cookie.name == c.name && old.cookie.httponly,
+        |old| old.host == h && labels::same_name(old.cookie.name, c.name) && old.cookie.httponly,
     )
     .is_some()
 }

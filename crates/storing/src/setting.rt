@@ -53,7 +53,7 @@ fn named_from(few: SetCookies, from: usize, name: CookieName) -> bool
     ensures { result ≡ named name (drop from (cookies_in few)) }
 {
     for i in from..few.count.min(FEW) {
-        if few.rows[i].name == name {
+        if labels::same_name(few.rows[i].name, name) {
             return true;
         }
     }

@@ -117,7 +117,7 @@ pub fn of_origin(m: &Memory, d: Document, v: WindowNumber) -> Option<Document>
         return None;
     }
     let e = active_document(m, v)?;
-    (origin_of(e) == origin_of(d)).then_some(e)
+    labels::same_origin(origin_of(e), origin_of(d)).then_some(e)
 }
 
 // The document with this number, if it is the active one of a reached window.

@@ -95,7 +95,7 @@ impl Labelled for Windows {
     ghost clean = { clean windows };
 
     fn mentions(h: Window, l: Label) -> bool {
-        l == Label::OfWindow(h.number)
+        labels::same(l, Label::OfWindow(h.number))
             || labels::in_parent(l, h.parent)
             || labels::in_opener(l, h.opener)
     }

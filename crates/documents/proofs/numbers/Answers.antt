@@ -21,5 +21,8 @@ loop-i-preserved g c =
       | else-test w ↦ rw (w.out-is, w.j-is) (omega (arith, v.0), v.1, v.2, λ p d. gather_skips (v.3 p d) c.row-row.ensures c.loop-i-test.true (sym (d _ false (subst post w.if-test.false c.test.ensures))))
     ]
 
-pub returns : goal.returns
-returns g c = λ p d. gather_end (c.loop-i.invariant.3 p d) (omega arith)
+pub returns-clause-numbers : goal.returns-clause-numbers
+returns-clause-numbers g c = λ p d. gather_end (c.loop-i.invariant.3 p d) (omega arith)
+
+pub returns-clause-most : goal.returns-clause-most
+returns-clause-most g c = omega (arith, c.loop-i.invariant.0, c.size-i-end.ensures)

@@ -10,5 +10,5 @@ pub returns : goal.returns
 returns c =
     let a = c.args in
     carries-then refl
-    (revised_carries documents (c.revise.ensures (setting_active a.w a.from false) (λ r s h. search rules)))
-    (revised_carries documents (c.revise-2.ensures (setting_active a.w a.to true) (λ r s h. search rules)))
+    (revised_carries documents (c.revise.ensures.revised (setting_active a.w a.from false) (λ r s h. search rules)))
+    (revised_carries documents (c.revise-2.ensures.revised (setting_active a.w a.to true) (λ r s h. search rules)))

@@ -5,4 +5,4 @@ use Rattle.removing.proofs.documents_under.Goals as goal
 
 pub returns : goal.returns
 unfolding removal
-returns c = c.numbers.ensures _ (λ r b h. search rules)
+returns c = c.numbers.ensures.numbers _ (λ r b h. search rules)

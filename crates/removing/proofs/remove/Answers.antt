@@ -13,6 +13,6 @@ returns c =
     let gone = c.args.gone in
     carries-then refl
     (carries-then refl
-    (keep-carries windows (c.keep.ensures (λ (r : Window). not (window_one_of r.number (window_numbers gone.windows))) (λ r b h. search rules)))
-    (keep-carries documents (c.keep-2.ensures (λ (d : Document). not (one_of d.number (document_numbers gone.documents))) (λ r b h. search rules))))
-    (keep-carries inputs (c.keep-3.ensures (λ (i : Input). not (one_of i.document (document_numbers gone.documents))) (λ r b h. search rules)))
+    (keep-carries windows (c.keep.ensures.kept (λ (r : Window). not (window_one_of r.number (window_numbers gone.windows))) (λ r b h. search rules)))
+    (keep-carries documents (c.keep-2.ensures.kept (λ (d : Document). not (one_of d.number (document_numbers gone.documents))) (λ r b h. search rules))))
+    (keep-carries inputs (c.keep-3.ensures.kept (λ (i : Input). not (one_of i.document (document_numbers gone.documents))) (λ r b h. search rules)))

@@ -12,8 +12,8 @@ returns-in-Labelled c =
     let s = c.in-Labelled.s in
     rw c.in-Labelled.is
     (carries-then refl
-    (keep-carries pending_requests (c.keep.ensures (λ r. not (same_reference s r.reference)) (λ r b h. search rules)))
-    (keep-carries pending_dns (c.keep-in-Labelled.ensures (λ r. not (same_reference s r.reference)) (λ r b h. search rules))))
+    (keep-carries pending_requests (c.keep.ensures.kept (λ r. not (same_reference s r.reference)) (λ r b h. search rules)))
+    (keep-carries pending_dns (c.keep-in-Labelled.ensures.kept (λ r. not (same_reference s r.reference)) (λ r b h. search rules))))
 
 pub returns-in_default : goal.returns-in_default
 returns-in_default c = rw c.in_default.is (bare_carries c.in_default.field-0 c.args.m.now)

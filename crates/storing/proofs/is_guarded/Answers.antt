@@ -7,4 +7,4 @@ use Rattle.storing.proofs.Names.{guards_of, guarded-found}
 use Rattle.storing.proofs.is_guarded.Goals as goal
 
 pub returns : goal.returns
-returns c = let a = c.args in c.is_some.ensures ∙ ap is_some (c.first.ensures (guards_of a.h a.c) (λ r b h. search rules)) ∙ guarded-found a.h a.c (table host_cookies_in a.m.now)
+returns c = let a = c.args in c.is_some.ensures ∙ ap is_some (c.first.ensures.found (guards_of a.h a.c) (λ r b h. search rules)) ∙ guarded-found a.h a.c (table host_cookies_in a.m.now)

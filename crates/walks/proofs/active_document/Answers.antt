@@ -8,4 +8,4 @@ use Rattle.walks.proofs.active_document.Goals as goal
 
 pub returns : goal.returns
 unfolding active_document documents_of
-returns c = c.first.ensures (λ (d : Document). same_window d.window c.args.w && d.active) (λ r b h. search rules) ∙ sym (find-both (λ (d : Document). same_window d.window c.args.w) (λ (d : Document). d.active) _)
+returns c = c.first.ensures.found (λ (d : Document). same_window d.window c.args.w && d.active) (λ r b h. search rules) ∙ sym (find-both (λ (d : Document). same_window d.window c.args.w) (λ (d : Document). d.active) _)

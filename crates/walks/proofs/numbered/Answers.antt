@@ -5,4 +5,4 @@ use Rattle.walks.proofs.numbered.Goals as goal
 
 pub returns : goal.returns
 unfolding document_numbered
-returns c = c.first.ensures _ (λ r b h. search rules)
+returns c = c.first.ensures.found _ (λ r b h. search rules)

@@ -13,4 +13,4 @@ returns c =
     (cleared_carries pending_dns c.clear-4.ensures))
     (cleared_carries pending_requests c.clear-5.ensures))
     (cleared_carries session_storage c.clear-6.ensures))
-    (keep-carries cookies (c.keep.ensures _ (λ r b h. search rules)))
+    (keep-carries cookies (c.keep.ensures.kept _ (λ r b h. search rules)))

@@ -13,12 +13,12 @@ pub returns-in_err-w : goal.returns-in_err-w
 unfolding observed plain_answer
 returns-in_err-w c =
     asks (keyless c.args.a.number) (plain_answer c.args.a (cookies_in c.args.few)) none
-    (sym c.in_err-w.ensures.ok_part ∙ c.first-found.ensures _ (λ r b h. search rules))
+    (sym c.in_err-w.ensures.ok_part ∙ c.first-found.ensures.found _ (λ r b h. search rules))
     (declined (Lacking NoRequest) c.args.f (search rules))
 
 pub returns : goal.returns
 unfolding observed plain_answer
 returns c =
     asks (keyless c.args.a.number) (plain_answer c.args.a (cookies_in c.args.few)) (some c.in_ok-w.w)
-    (sym c.in_ok-w.ensures.ok_part ∙ c.first-found.ensures _ (λ r b h. search rules))
+    (sym c.in_ok-w.ensures.ok_part ∙ c.first-found.ensures.found _ (λ r b h. search rules))
     c.process_response.ensures

@@ -9,5 +9,5 @@ use Rattle.responses.proofs.loading.later_than.Goals as goal
 
 pub returns : goal.returns
 returns c =
-    c.numbers.ensures (λ (e : Document). same_window e.window c.args.v && is_later c.args.current e) (λ r b h. search rules)
+    c.numbers.ensures.numbers (λ (e : Document). same_window e.window c.args.v && is_later c.args.current e) (λ r b h. search rules)
     ∙ ap (map number_of) (kept-later c.args.v _ c.args.current)

@@ -12,7 +12,7 @@ use Rattle.responses.proofs.loading.place_behind.Goals as goal
 
 counted : (c : goal.After-tally-up_to) → c.tally-up_to.result ≡ length (up_to c.args.current (documents_of (table documents_in c.args.m.now) c.args.v))
 counted c =
-    c.tally-up_to.ensures (λ (e : Document). same_window e.window c.args.v && is_up_to c.args.current e) (λ r b h. search rules)
+    c.tally-up_to.ensures.counted (λ (e : Document). same_window e.window c.args.v && is_up_to c.args.current e) (λ r b h. search rules)
     ∙ ap length (kept-up-to c.args.v _ c.args.current)
 
 pub overflow_cast-result : goal.overflow_cast-result

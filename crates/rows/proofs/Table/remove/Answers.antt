@@ -3,4 +3,4 @@ use Rattle.std.proofs.Common.{rules}
 use Rattle.rows.proofs.Table.remove.Goals as goal
 
 pub returns : goal.returns
-returns g c = c.keep.ensures _ (λ r b h. search rules)
+returns g c = c.keep.ensures.kept _ (λ r b h. search rules)

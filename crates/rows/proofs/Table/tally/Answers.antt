@@ -16,5 +16,8 @@ loop-i-preserved g c =
       | else-test w ↦ rw w.some-is (omega (arith, c.loop-i.invariant.0), λ p d. asked_skips (goal.F-post g) c.args.test p d c.head_at.ensures (c.loop-i.invariant.1 p d) c.loop-i-test.true (subst (goal.F-post g c.args.test c.head_at.result) w.if-test.false c.test.ensures))
     ]
 
-pub returns : goal.returns
-returns g c = λ p d. tally_end (c.loop-i.invariant.1 p d) (omega arith)
+pub returns-clause-counted : goal.returns-clause-counted
+returns-clause-counted g c = λ p d. tally_end (c.loop-i.invariant.1 p d) (omega arith)
+
+pub returns-clause-most : goal.returns-clause-most
+returns-clause-most g c = omega (arith, c.loop-i.invariant.0, c.size-i-end.ensures)

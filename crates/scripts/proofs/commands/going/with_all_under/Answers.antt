@@ -11,4 +11,4 @@ pub returns : goal.returns
 unfolding documents_of
 returns c =
     goes_with _ _ 32 (omega (arith, counted windows_in c.args.m.now)) c.args.v _ _ (going c.removal-under.result) _ c.and_window.ensures c.removal-under.ensures
-    (c.numbers-own.ensures _ (λ r b h. search rules))
+    (c.numbers-own.ensures.numbers _ (λ r b h. search rules))

@@ -1,7 +1,7 @@
 -- At a byte that passes, at another, at the end.
 use Rattle.std.proofs.Common.{◌≡◌, refl, sym, ◌∙◌, arith}
 use Rattle.seeking.proofs.Places.{ended, hit, again}
-use Rattle.seeking.proofs.find.Goals as goal
+use Rattle.seeking.proofs.first.Goals as goal
 
 pub loop-i-init : goal.loop-i-init
 loop-i-init g c = (omega arith, λ p d. refl)
